@@ -6,17 +6,17 @@ use Rattle.log_commands.proofs.row.number_back.Goals.{else-back-last-via-then-ba
 use Rattle.log_commands.proofs.row.number_back.Goals.{else-back-last-via-then-back-last+then-entry-last+else-entry-newer}
 use Rattle.log_commands.proofs.row.number_back.Goals as goal
 
-pub returns-then-entry-newer-clause-row : goal.returns-then-entry-newer-clause-row
-returns-then-entry-newer-clause-row c image is row =
-    let place_is : c.in-Some.entry.place ≡ c.args.last - c.args.back = omega (arith, c.if-entry-last.true) in
-    row_record image c.args.last c.args.back c.args.newer c.requires row c.in-Some.entry
-    (subst (λ (e : Option Entry). IsEntry image (slot_back c.args.last c.args.back) e) c.in-Some.is is)
-    c.if-back-last.true place_is c.if-entry-newer.true
-
-pub returns-then-entry-newer-clause-stands : goal.returns-then-entry-newer-clause-stands
-returns-then-entry-newer-clause-stands c image records is ends bound =
-    (bound_entry image c.args.last c.args.back c.args.newer records c.requires ends bound c.in-Some.entry
-    (subst (λ (e : Option Entry). IsEntry image (slot_back c.args.last c.args.back) e) c.in-Some.is is)).3
+pub returns-then-entry-newer : goal.returns-then-entry-newer
+returns-then-entry-newer c = record {
+  row = λ image is row.
+      let place_is : c.in-Some.entry.place ≡ c.args.last - c.args.back = omega (arith, c.if-entry-last.true) in
+      row_record image c.args.last c.args.back c.args.newer c.requires row c.in-Some.entry
+      (subst (λ (e : Option Entry). IsEntry image (slot_back c.args.last c.args.back) e) c.in-Some.is is)
+      c.if-back-last.true place_is c.if-entry-newer.true;
+  stands = λ image records is ends bound. (bound_entry image c.args.last c.args.back c.args.newer records c.requires
+      ends bound c.in-Some.entry
+      (subst (λ (e : Option Entry). IsEntry image (slot_back c.args.last c.args.back) e) c.in-Some.is is)).3;
+}
 
 pub returns-else-back-last-clause-stands : goal.returns-else-back-last-clause-stands
 returns-else-back-last-clause-stands c image records is ends bound =

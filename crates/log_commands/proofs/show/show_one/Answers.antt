@@ -8,16 +8,29 @@ use Rattle.log_commands.proofs.show.show_one.Goals as goal
 pub returns-in_err-it-clause-begun : goal.returns-in_err-it-clause-begun
 returns-in_err-it-clause-begun g c = λ image text it holds. begins_not _ _ it.text c.read_slot.ensures.reads.text
 
--- a record's text is printed at once
-pub print-requires-clause-some : goal.print-requires-clause-some
-print-requires-clause-some g c =
-    let is = subst IsContentInRange c.in-Filled.is c.in_ok-it.ensures.sound in
-    omega (arith, ap length c.as_slice.ensures.value, ap (λ (r : Record). length r.text) c.it.view_is, some_text _ is.0)
+pub returns-in_err-it-clause-keeps : goal.returns-in_err-it-clause-keeps
+returns-in_err-it-clause-keeps g c =
+    reads_keep g.G.Printer c.args.log.now c.read_slot.new.log c.read_slot.ensures.image c.read_slot.ensures.reads
 
-pub print-requires-clause-few : goal.print-requires-clause-few
-print-requires-clause-few g c =
+pub print-requires : goal.print-requires
+print-requires g c =
     let is = subst IsContentInRange c.in-Filled.is c.in_ok-it.ensures.sound in
-    omega (arith, ap length c.as_slice.ensures.value, ap (λ (r : Record). length r.text) c.it.view_is, few_text _ is.0)
+    record {
+      some = omega (
+        arith,
+        ap length c.as_slice.ensures.value,
+        ap
+            (λ (r : Record). length r.text) c.it.view_is,
+        some_text _ is.0,
+      );
+      few = omega (
+        arith,
+        ap length c.as_slice.ensures.value,
+        ap
+            (λ (r : Record). length r.text) c.it.view_is,
+        few_text _ is.0,
+      );
+    }
 
 -- what is printed is the record's text
 printed_is : (g : given.Over) (c : goal.After-print g) → g.G.Printer.tells_image → (it : Record) → HasRecord
@@ -41,6 +54,13 @@ returns-in-Filled-clause-begun g c = λ image text it holds.
     (subst (λ (t : List ℕ). Begins t (g.G.Printer.printed c.print.new.self) c.as_slice.result.now)
     c.read_slot.ensures.reads.text (c.print.ensures.begun text))
 
+pub returns-in-Filled-clause-keeps : goal.returns-in-Filled-clause-keeps
+returns-in-Filled-clause-keeps g c =
+    keeps_then g.G.Printer c.args.log.now c.read_slot.new.log c.print.new.self
+    (reads_keep g.G.Printer c.args.log.now c.read_slot.new.log c.read_slot.ensures.image c.read_slot.ensures.reads)
+    (keeps_print g.G.Printer c.read_slot.new.log c.print.new.self c.as_slice.result.now c.print.ensures.image
+    c.print.ensures.flight c.print.ensures.time)
+
 pub returns-in-Unread-clause-shown : goal.returns-in-Unread-clause-shown
 returns-in-Unread-clause-shown g c = λ image text it holds.
     absurd (told_unread (g.G.Printer.image c.args.log.now) c.args.place it c.in_ok-it.field-0 holds
@@ -49,6 +69,10 @@ returns-in-Unread-clause-shown g c = λ image text it holds.
 pub returns-in-Unread-clause-begun : goal.returns-in-Unread-clause-begun
 returns-in-Unread-clause-begun g c = λ image text it holds. begins_not _ _ it.text c.read_slot.ensures.reads.text
 
+pub returns-in-Unread-clause-keeps : goal.returns-in-Unread-clause-keeps
+returns-in-Unread-clause-keeps g c =
+    reads_keep g.G.Printer c.args.log.now c.read_slot.new.log c.read_slot.ensures.image c.read_slot.ensures.reads
+
 pub returns-in-Closed-clause-shown : goal.returns-in-Closed-clause-shown
 returns-in-Closed-clause-shown g c = λ image text it holds.
     absurd (told_closed (g.G.Printer.image c.args.log.now) c.args.place it c.in_ok-it.field-0 holds
@@ -56,21 +80,6 @@ returns-in-Closed-clause-shown g c = λ image text it holds.
 
 pub returns-in-Closed-clause-begun : goal.returns-in-Closed-clause-begun
 returns-in-Closed-clause-begun g c = λ image text it holds. begins_not _ _ it.text c.read_slot.ensures.reads.text
-
-pub returns-in_err-it-clause-keeps : goal.returns-in_err-it-clause-keeps
-returns-in_err-it-clause-keeps g c =
-    reads_keep g.G.Printer c.args.log.now c.read_slot.new.log c.read_slot.ensures.image c.read_slot.ensures.reads
-
-pub returns-in-Filled-clause-keeps : goal.returns-in-Filled-clause-keeps
-returns-in-Filled-clause-keeps g c =
-    keeps_then g.G.Printer c.args.log.now c.read_slot.new.log c.print.new.self
-    (reads_keep g.G.Printer c.args.log.now c.read_slot.new.log c.read_slot.ensures.image c.read_slot.ensures.reads)
-    (keeps_print g.G.Printer c.read_slot.new.log c.print.new.self c.as_slice.result.now c.print.ensures.image
-    c.print.ensures.flight c.print.ensures.time)
-
-pub returns-in-Unread-clause-keeps : goal.returns-in-Unread-clause-keeps
-returns-in-Unread-clause-keeps g c =
-    reads_keep g.G.Printer c.args.log.now c.read_slot.new.log c.read_slot.ensures.image c.read_slot.ensures.reads
 
 pub returns-in-Closed-clause-keeps : goal.returns-in-Closed-clause-keeps
 returns-in-Closed-clause-keeps g c =

@@ -1,4 +1,4 @@
-use Rattle.std.{specs.Prelude.{is_err}, proofs.Common.{◌∙◌, Err, Ok, Some, ap, inr, refl, subst, sym}}
+use Rattle.std.{specs.Prelude.{is_err}, proofs.Common.{◌∙◌, Err, Ok, Some, ap, inr, refl, rules, subst, sym}}
 use Rattle.log_commands.{specs.BeforeLastLine.{CallReachesLine}, proofs.EndCases.{unread_no_read, unread_sync}}
 use Rattle.log_commands.specs.{Common.{Ended, File, IsAsHeld, Rose}, declared.finding.FindFault.TheVariants.{LogFault}}
 use Rattle.log_commands.{specs.Endings.{status_of, unread_end}, proofs.LastLines.{search_read}}
@@ -11,79 +11,72 @@ use Rattle.log_commands.proofs.top.file.Goals as goal
 
 -- ---- the log isn't read
 
-pub returns-in-Err-clause-comes : goal.returns-in-Err-clause-comes
-returns-in-Err-clause-comes g c = λ files_told told.
-    let B = g.G.Printer in
-    let fault = c.in-Err.fault in
-    subst (λ (end : Ended). CallReachesLine g.F.Files B (Some File) c.args.files.now c.args.files.now c.args.log.now
-    c.find_tail.new.log c.args.steps.now c.find_tail.new.steps end) (sym c.ended_unread.ensures)
-    (reaches_unread g.F.Files B (Some File) c.args.files.now c.args.files.now c.args.log.now c.find_tail.new.log
-    c.args.steps.now c.find_tail.new.steps fault (File, refl)
-    (λ slot is. c.find_tail.ensures.bad slot (c.in-Err.is ∙ ap Err is) told)
-    (λ is. c.find_tail.ensures.broken (c.in-Err.is ∙ ap Err is) told)
-    (λ is. c.find_tail.ensures.cause.rose (c.in-Err.is ∙ ap Err is))
-    (unread_sync B (IsAsHeld B c.args.log.now) c.args.log.now c.find_tail.new.log c.find_tail.result fault c.in-Err.is
-    (c.find_tail.ensures.synced told)) c.find_tail.ensures.reads.text c.find_tail.ensures.steps)
-
-pub returns-in-Err-clause-read_fault : goal.returns-in-Err-clause-read_fault
-returns-in-Err-clause-read_fault g c = λ e. absurd (unread_no_read c.in-Err.fault (sym c.ended_unread.ensures ∙ e))
-
-pub returns-in-Err-clause-board_fault : goal.returns-in-Err-clause-board_fault
-returns-in-Err-clause-board_fault g c =
-    rises_for _ _ (λ e. c.ended_unread.ensures ∙ ap unread_end
-    (same_fault _ c.in-Err.fault LogFault (sym c.in-Err.is ∙ e)))
-    (λ e. c.in-Err.is ∙ ap Err (unread_board c.in-Err.fault (sym c.ended_unread.ensures ∙ e))) c.find_tail.ensures.cause
-
-pub returns-in-Err-clause-reads : goal.returns-in-Err-clause-reads
-returns-in-Err-clause-reads g c = λ word. may_none (g.F.Files.faults c.args.files.now word)
-
-pub returns-in-Err-clause-looks : goal.returns-in-Err-clause-looks
-returns-in-Err-clause-looks g c = λ writes.
-    search_read g.G.Printer c.args.log.now c.find_tail.new.log (status_of c.ended_unread.result)
-    c.find_tail.ensures.reads
-    (λ not. c.find_tail.ensures.same (λ e. not (ap status_of
-    (c.ended_unread.ensures ∙ ap unread_end (same_fault _ c.in-Err.fault LogFault (sym c.in-Err.is ∙ e))))))
+pub returns-in-Err : goal.returns-in-Err
+returns-in-Err g c = record {
+  comes = λ files_told told.
+      let B = g.G.Printer in
+      let fault = c.in-Err.fault in
+      subst (λ (end : Ended). CallReachesLine g.F.Files B (Some File) c.args.files.now c.args.files.now c.args.log.now
+      c.find_tail.new.log c.args.steps.now c.find_tail.new.steps end) (sym c.ended_unread.ensures)
+      (reaches_unread g.F.Files B (Some File) c.args.files.now c.args.files.now c.args.log.now c.find_tail.new.log
+      c.args.steps.now c.find_tail.new.steps fault (File, refl)
+      (λ slot is. c.find_tail.ensures.bad slot (c.in-Err.is ∙ ap Err is) told)
+      (λ is. c.find_tail.ensures.broken (c.in-Err.is ∙ ap Err is) told)
+      (λ is. c.find_tail.ensures.cause.rose (c.in-Err.is ∙ ap Err is))
+      (unread_sync B (IsAsHeld B c.args.log.now) c.args.log.now c.find_tail.new.log c.find_tail.result fault c.in-Err.is
+      (c.find_tail.ensures.synced told)) c.find_tail.ensures.reads.text c.find_tail.ensures.steps);
+  read_fault = λ e. absurd (unread_no_read c.in-Err.fault (sym c.ended_unread.ensures ∙ e));
+  reads = λ word. may_none (g.F.Files.faults c.args.files.now word);
+  board_fault = rises_for _ _ (λ e. c.ended_unread.ensures ∙ ap unread_end
+      (same_fault _ c.in-Err.fault LogFault (sym c.in-Err.is ∙ e)))
+      (λ e. c.in-Err.is ∙ ap Err (unread_board c.in-Err.fault (sym c.ended_unread.ensures ∙ e)))
+      c.find_tail.ensures.cause;
+  has = rw c.ended_unread.ensures (unread_files c.in-Err.fault);
+  looks = λ writes.
+      search_read g.G.Printer c.args.log.now c.find_tail.new.log (status_of c.ended_unread.result)
+      c.find_tail.ensures.reads
+      (λ not. c.find_tail.ensures.same (λ e. not (ap status_of
+      (c.ended_unread.ensures ∙ ap unread_end (same_fault _ c.in-Err.fault LogFault (sym c.in-Err.is ∙ e))))));
+  untaken = search rules;
+  others = search rules;
+}
 
 -- ---- the roll is filed
 
-pub returns-in-Ok-file_roll-clause-comes : goal.returns-in-Ok-file_roll-clause-comes
-returns-in-Ok-file_roll-clause-comes g c = λ files_told told.
-    let B = g.G.Printer in
-    let found = c.in-Ok.ensures.found told in
-    subst (λ (end : Ended). CallReachesLine g.F.Files B (Some File) c.args.files.now c.file_roll.new.files
-    c.args.log.now c.file_roll.new.log c.args.steps.now c.file_roll.new.steps end) (sym c.ended_filing.ensures)
-    (reaches_end g.F.Files B c.args.files.now c.file_roll.new.files c.args.log.now c.find_tail.new.log
-    c.file_roll.new.log c.args.steps.now c.find_tail.new.steps c.file_roll.new.steps found.0 found.1
-    c.in-Ok.tail found.2
-    (found_sync B (IsAsHeld B c.args.log.now) c.args.log.now c.find_tail.new.log c.find_tail.result c.in-Ok.tail
-    c.in-Ok.is (c.find_tail.ensures.synced told)) c.find_tail.ensures.steps c.find_tail.ensures.reads.text
-    c.file_roll.ensures.text
-    g.G.Printer.tells_image g.F.Files.tells told files_told c.in-Ok-file_roll.end c.file_roll.new.tail
-    c.in-Ok-file_roll.ensures.ok (λ is. c.file_roll.ensures.read_fault (c.in-Ok-file_roll.is ∙ ap Ok is)))
-
-pub returns-in-Ok-file_roll-clause-read_fault : goal.returns-in-Ok-file_roll-clause-read_fault
-returns-in-Ok-file_roll-clause-read_fault g c = λ e. c.file_roll.ensures.read_fault
-    (c.in-Ok-file_roll.is ∙ ap Ok (filing_read c.in-Ok-file_roll.end (sym c.ended_filing.ensures ∙ e)))
-
-pub returns-in-Ok-file_roll-clause-board_fault : goal.returns-in-Ok-file_roll-clause-board_fault
-returns-in-Ok-file_roll-clause-board_fault g c = record {
-  kept = λ _. c.in-Ok-file_roll.ensures.cause.kept refl ∙ rises_ok _ _ c.find_tail.result c.in-Ok.tail LogFault
-      c.in-Ok.is c.find_tail.ensures.cause;
-  rose = λ e. absurd (filing_no_board c.in-Ok-file_roll.end (sym c.ended_filing.ensures ∙ e));
+pub returns-in-Ok-file_roll : goal.returns-in-Ok-file_roll
+returns-in-Ok-file_roll g c = record {
+  comes = λ files_told told.
+      let B = g.G.Printer in
+      let found = c.in-Ok.ensures.found told in
+      subst (λ (end : Ended). CallReachesLine g.F.Files B (Some File) c.args.files.now c.file_roll.new.files
+      c.args.log.now c.file_roll.new.log c.args.steps.now c.file_roll.new.steps end) (sym c.ended_filing.ensures)
+      (reaches_end g.F.Files B c.args.files.now c.file_roll.new.files c.args.log.now c.find_tail.new.log
+      c.file_roll.new.log c.args.steps.now c.find_tail.new.steps c.file_roll.new.steps found.0 found.1
+      c.in-Ok.tail found.2
+      (found_sync B (IsAsHeld B c.args.log.now) c.args.log.now c.find_tail.new.log c.find_tail.result c.in-Ok.tail
+      c.in-Ok.is (c.find_tail.ensures.synced told)) c.find_tail.ensures.steps c.find_tail.ensures.reads.text
+      c.file_roll.ensures.text
+      g.G.Printer.tells_image g.F.Files.tells told files_told c.in-Ok-file_roll.end c.file_roll.new.tail
+      c.in-Ok-file_roll.ensures.ok (λ is. c.file_roll.ensures.read_fault (c.in-Ok-file_roll.is ∙ ap Ok is)));
+  read_fault = λ e. c.file_roll.ensures.read_fault
+      (c.in-Ok-file_roll.is ∙ ap Ok (filing_read c.in-Ok-file_roll.end (sym c.ended_filing.ensures ∙ e)));
+  reads = λ word.
+      may_rise_for _ _ (λ failed. rw c.ended_filing.ensures (filing_reads c.in-Ok-file_roll.end failed))
+      (c.in-Ok-file_roll.ensures.counts word);
+  board_fault = record {
+    kept = λ _. c.in-Ok-file_roll.ensures.cause.kept refl ∙ rises_ok _ _ c.find_tail.result c.in-Ok.tail LogFault
+        c.in-Ok.is c.find_tail.ensures.cause;
+    rose = λ e. absurd (filing_no_board c.in-Ok-file_roll.end (sym c.ended_filing.ensures ∙ e));
+  };
+  has = rw c.ended_filing.ensures (filing_files c.in-Ok-file_roll.end);
+  looks = λ writes. absurd
+      (filing_writes c.in-Ok-file_roll.end (status_of c.ended_filing.result)
+      (ap status_of c.ended_filing.ensures) writes);
+  untaken = λ writes. absurd
+      (filing_writes c.in-Ok-file_roll.end (status_of c.ended_filing.result)
+      (ap status_of c.ended_filing.ensures) writes);
+  others = search rules;
 }
-
-pub returns-in-Ok-file_roll-clause-reads : goal.returns-in-Ok-file_roll-clause-reads
-returns-in-Ok-file_roll-clause-reads g c = λ word.
-    may_rise_for _ _ (λ failed. rw c.ended_filing.ensures (filing_reads c.in-Ok-file_roll.end failed))
-    (c.in-Ok-file_roll.ensures.counts word)
-
-pub returns-in-Ok-file_roll-clause-looks : goal.returns-in-Ok-file_roll-clause-looks
-returns-in-Ok-file_roll-clause-looks g c = λ writes. absurd
-    (filing_writes c.in-Ok-file_roll.end (status_of c.ended_filing.result) (ap status_of c.ended_filing.ensures) writes)
-
-pub returns-in-Ok-file_roll-clause-untaken : goal.returns-in-Ok-file_roll-clause-untaken
-returns-in-Ok-file_roll-clause-untaken g c = λ writes. absurd
-    (filing_writes c.in-Ok-file_roll.end (status_of c.ended_filing.result) (ap status_of c.ended_filing.ensures) writes)
 
 -- ---- the board fails
 
@@ -93,38 +86,26 @@ failed g c =
     rose_later _ _ _ (rises_ok _ _ c.find_tail.result c.in-Ok.tail LogFault c.in-Ok.is c.find_tail.ensures.cause)
     (c.file_roll.ensures.cause.failed (ap is_err c.in-Err-file_roll.is))
 
-pub returns-in-Err-file_roll-clause-comes : goal.returns-in-Err-file_roll-clause-comes
-returns-in-Err-file_roll-clause-comes g c = λ files_told told.
-    let B = g.G.Printer in
-    let found = c.in-Ok.ensures.found told in
-    reaches_failed g.F.Files B c.args.files.now c.file_roll.new.files c.args.log.now c.find_tail.new.log
-    c.file_roll.new.log c.args.steps.now c.find_tail.new.steps c.file_roll.new.steps found.0 found.1
-    c.in-Ok.tail found.2
-    (found_sync B (IsAsHeld B c.args.log.now) c.args.log.now c.find_tail.new.log c.find_tail.result c.in-Ok.tail
-    c.in-Ok.is (c.find_tail.ensures.synced told)) c.find_tail.ensures.steps c.find_tail.ensures.reads.text
-    c.file_roll.ensures.text
-    g.G.Printer.tells_image g.F.Files.tells told files_told c.in-Err-file_roll.ensures.failed (failed g c)
-
-pub returns-in-Err-file_roll-clause-board_fault : goal.returns-in-Err-file_roll-clause-board_fault
-returns-in-Err-file_roll-clause-board_fault g c = record { kept = λ no. absurd (no refl); rose = λ _. failed g c }
-
-pub returns-in-Err-file_roll-clause-reads : goal.returns-in-Err-file_roll-clause-reads
-returns-in-Err-file_roll-clause-reads g c = λ word. may_rise_for _ _ (λ _. inr (inr refl))
-    (c.file_roll.ensures.counts word)
-
-pub returns-in-Err-file_roll-clause-looks : goal.returns-in-Err-file_roll-clause-looks
-returns-in-Err-file_roll-clause-looks g c = λ writes. absurd (fault_writes writes)
-
-pub returns-in-Err-file_roll-clause-untaken : goal.returns-in-Err-file_roll-clause-untaken
-returns-in-Err-file_roll-clause-untaken g c = λ writes. absurd (fault_writes writes)
+pub returns-in-Err-file_roll : goal.returns-in-Err-file_roll
+returns-in-Err-file_roll g c = record {
+  comes = λ files_told told.
+      let B = g.G.Printer in
+      let found = c.in-Ok.ensures.found told in
+      reaches_failed g.F.Files B c.args.files.now c.file_roll.new.files c.args.log.now c.find_tail.new.log
+      c.file_roll.new.log c.args.steps.now c.find_tail.new.steps c.file_roll.new.steps found.0 found.1
+      c.in-Ok.tail found.2
+      (found_sync B (IsAsHeld B c.args.log.now) c.args.log.now c.find_tail.new.log c.find_tail.result c.in-Ok.tail
+      c.in-Ok.is (c.find_tail.ensures.synced told)) c.find_tail.ensures.steps c.find_tail.ensures.reads.text
+      c.file_roll.ensures.text
+      g.G.Printer.tells_image g.F.Files.tells told files_told c.in-Err-file_roll.ensures.failed (failed g c);
+  read_fault = search rules;
+  reads = λ word. may_rise_for _ _ (λ _. inr (inr refl))
+      (c.file_roll.ensures.counts word);
+  board_fault = record { kept = λ no. absurd (no refl); rose = λ _. failed g c };
+  has = fault_has (Some File) 8 refl;
+  looks = λ writes. absurd (fault_writes writes);
+  untaken = λ writes. absurd (fault_writes writes);
+  others = search rules;
+}
 
 -- ---- the status
-
-pub returns-in-Err-clause-has : goal.returns-in-Err-clause-has
-returns-in-Err-clause-has g c = rw c.ended_unread.ensures (unread_files c.in-Err.fault)
-
-pub returns-in-Ok-file_roll-clause-has : goal.returns-in-Ok-file_roll-clause-has
-returns-in-Ok-file_roll-clause-has g c = rw c.ended_filing.ensures (filing_files c.in-Ok-file_roll.end)
-
-pub returns-in-Err-file_roll-clause-has : goal.returns-in-Err-file_roll-clause-has
-returns-in-Err-file_roll-clause-has g c = fault_has (Some File) 8 refl

@@ -1,4 +1,4 @@
-use Rattle.std.proofs.Common.{◌+◌, ◌≡◌, Option, map, string_bytes, subst}
+use Rattle.std.proofs.Common.{◌+◌, ◌≡◌, Option, map, rules, string_bytes, subst}
 use Rattle.log_commands.specs.{Calls.{IsCall, WritesNothing, known_of}, Common.{Call, RisesOnlyIf}, Endings.{status_of}}
 use Rattle.log_commands.{specs.Words.{call_of}, proofs.Causes.{may_rise_for}}
 use Rattle.log_commands.proofs.{EndCases.{few_are_fewer}, LastLines.{reads_finished, search_told, writes_before}}
@@ -30,24 +30,6 @@ is_call g c known =
     (c.carry_out-ended.ensures.comes (rw c.call_in.ensures known)) c.finish.ensures.told c.finish.ensures.silent
     c.finish.ensures.keeps (board_fault g c) c.finish.ensures.steps)
 
-pub returns-clause-call : goal.returns-clause-call
-returns-clause-call g c = λ known. is_call g c known
-
-pub returns-clause-again : goal.returns-clause-again
-returns-clause-again g c = λ files_told told file good.
-    call_again g.F.Files g.G.Printer c.args.files.now c.carry_out-ended.new.files c.args.log.now c.finish.new.log
-    c.finish.result (call_of (map string_bytes c.args.words.now)) c.args.steps.now c.finish.new.steps
-    (is_call g c (rw file (files_told, told))) file good
-
-pub returns-clause-complete : goal.returns-clause-complete
-returns-clause-complete g c = λ known command records calls stands fit read board.
-    call_whole g.F.Files g.G.Printer c.args.files.now c.carry_out-ended.new.files c.args.log.now c.finish.new.log
-    c.finish.result records stands command fit read board (call_of (map string_bytes c.args.words.now))
-    c.args.steps.now c.finish.new.steps (is_call g c known) calls
-
-pub returns-clause-board_fault : goal.returns-clause-board_fault
-returns-clause-board_fault g c = board_fault g c
-
 -- what is written is written before the last line
 writes : (g : given.Over) (c : goal.After-finish g)
     → WritesNothing (call_of (map string_bytes c.args.words.now)) c.finish.result
@@ -57,29 +39,33 @@ writes g c nothing =
     (writes_before g.G.Printer (call_of (map string_bytes c.args.words.now)) c.carry_out-ended.result
     c.carry_out-ended.new.log c.finish.new.log c.finish.result c.finish.ensures.told nothing)
 
-pub returns-clause-looks : goal.returns-clause-looks
-returns-clause-looks g c = λ nothing.
-    search_told g.G.Printer c.args.log.now c.carry_out-ended.new.log c.finish.new.log
-    c.carry_out-ended.result c.finish.result
-    (g.met.G.Printer.only_now c.carry_out-ended.new.log) (c.carry_out-ended.ensures.looks (writes g c nothing))
-    c.finish.ensures.keeps c.finish.ensures.told
-
-pub returns-clause-untaken : goal.returns-clause-untaken
-returns-clause-untaken g c = λ nothing. c.carry_out-ended.ensures.untaken (writes g c nothing)
-
-pub returns-clause-reads : goal.returns-clause-reads
-returns-clause-reads g c = λ word.
-    may_rise_for _ _ (reads_finished g.G.Printer c.carry_out-ended.result c.carry_out-ended.new.log
-    c.finish.new.log c.finish.result c.finish.ensures.told)
-    (c.carry_out-ended.ensures.reads word)
-
-pub returns-clause-has : goal.returns-clause-has
-returns-clause-has g c =
-    has_finished g.G.Printer (call_of (map string_bytes c.args.words.now)) c.carry_out-ended.result
-    c.carry_out-ended.new.log c.finish.new.log c.finish.result
-    (rw (← c.call_in.ensures) c.carry_out-ended.ensures.has) c.finish.ensures.told
-
-pub returns-clause-steps : goal.returns-clause-steps
-returns-clause-steps g c =
-    few_are_fewer (call_of (map string_bytes c.args.words.now)) c.args.steps.now (c.carry_out-ended.new.steps + 1)
-    c.finish.new.steps (rw (← c.call_in.ensures) c.carry_out-ended.ensures.steps) c.finish.ensures.steps
+pub returns : goal.returns
+returns g c = record {
+  call = λ known. is_call g c known;
+  again = λ files_told told file good.
+      call_again g.F.Files g.G.Printer c.args.files.now c.carry_out-ended.new.files c.args.log.now c.finish.new.log
+      c.finish.result (call_of (map string_bytes c.args.words.now)) c.args.steps.now c.finish.new.steps
+      (is_call g c (rw file (files_told, told))) file good;
+  complete = λ known command records calls stands fit read board.
+      call_whole g.F.Files g.G.Printer c.args.files.now c.carry_out-ended.new.files c.args.log.now c.finish.new.log
+      c.finish.result records stands command fit read board (call_of (map string_bytes c.args.words.now))
+      c.args.steps.now c.finish.new.steps (is_call g c known) calls;
+  has = has_finished g.G.Printer (call_of (map string_bytes c.args.words.now)) c.carry_out-ended.result
+      c.carry_out-ended.new.log c.finish.new.log c.finish.result
+      (rw (← c.call_in.ensures) c.carry_out-ended.ensures.has) c.finish.ensures.told;
+  read_fault = search rules;
+  reads = λ word.
+      may_rise_for _ _ (reads_finished g.G.Printer c.carry_out-ended.result c.carry_out-ended.new.log
+      c.finish.new.log c.finish.result c.finish.ensures.told)
+      (c.carry_out-ended.ensures.reads word);
+  board_fault = board_fault g c;
+  looks = λ nothing.
+      search_told g.G.Printer c.args.log.now c.carry_out-ended.new.log c.finish.new.log
+      c.carry_out-ended.result c.finish.result
+      (g.met.G.Printer.only_now c.carry_out-ended.new.log) (c.carry_out-ended.ensures.looks (writes g c nothing))
+      c.finish.ensures.keeps c.finish.ensures.told;
+  untaken = λ nothing. c.carry_out-ended.ensures.untaken (writes g c nothing);
+  others = search rules;
+  steps = few_are_fewer (call_of (map string_bytes c.args.words.now)) c.args.steps.now (c.carry_out-ended.new.steps + 1)
+      c.finish.new.steps (rw (← c.call_in.ensures) c.carry_out-ended.ensures.steps) c.finish.ensures.steps;
+}

@@ -1,4 +1,4 @@
-use Rattle.std.{specs.Prelude.{is_err}, proofs.Common.{◌∙◌, Err, Some, ap, refl, subst, sym}}
+use Rattle.std.{specs.Prelude.{is_err}, proofs.Common.{◌∙◌, Err, Some, ap, refl, rules, subst, sym}}
 use Rattle.log_commands.specs.{BeforeLastLine.{CallReachesLine}, Endings.{status_of, unread_end}}
 use Rattle.log_commands.specs.{Common.{Ended, IsAsHeld, Rose, Show}, declared.finding.FindFault.TheVariants.{LogFault}}
 use Rattle.log_commands.proofs.{CallEnds.{reaches_cut, reaches_shown, reaches_unread}, NewestFound.{same_fault}}
@@ -10,35 +10,33 @@ use Rattle.log_commands.proofs.top.show.Goals as goal
 
 -- ---- the log isn't read
 
-pub returns-in-Err-clause-comes : goal.returns-in-Err-clause-comes
-returns-in-Err-clause-comes g c = λ told files.
-    let B = g.G.Printer in
-    let fault = c.in-Err.fault in
-    subst (λ (end : Ended). CallReachesLine g.F.Files B (Some Show) files files c.args.log.now c.find_tail.new.log
-    c.args.steps.now c.find_tail.new.steps end) (sym c.ended_unread.ensures)
-    (reaches_unread g.F.Files B
-    (Some Show) files files c.args.log.now c.find_tail.new.log c.args.steps.now c.find_tail.new.steps fault (Show, refl)
-    (λ slot is. c.find_tail.ensures.bad slot (c.in-Err.is ∙ ap Err is) told)
-    (λ is. c.find_tail.ensures.broken (c.in-Err.is ∙ ap Err is) told)
-    (λ is. c.find_tail.ensures.cause.rose (c.in-Err.is ∙ ap Err is))
-    (unread_sync B (IsAsHeld B c.args.log.now) c.args.log.now c.find_tail.new.log c.find_tail.result fault c.in-Err.is
-    (c.find_tail.ensures.synced told)) c.find_tail.ensures.reads.text c.find_tail.ensures.steps)
-
-pub returns-in-Err-clause-unread : goal.returns-in-Err-clause-unread
-returns-in-Err-clause-unread g c = λ e. unread_no_read c.in-Err.fault (sym c.ended_unread.ensures ∙ e)
-
-pub returns-in-Err-clause-board_fault : goal.returns-in-Err-clause-board_fault
-returns-in-Err-clause-board_fault g c =
-    rises_for _ _ (λ e. c.ended_unread.ensures ∙ ap unread_end
-    (same_fault _ c.in-Err.fault LogFault (sym c.in-Err.is ∙ e)))
-    (λ e. c.in-Err.is ∙ ap Err (unread_board c.in-Err.fault (sym c.ended_unread.ensures ∙ e))) c.find_tail.ensures.cause
-
-pub returns-in-Err-clause-looks : goal.returns-in-Err-clause-looks
-returns-in-Err-clause-looks g c =
-    search_read g.G.Printer c.args.log.now c.find_tail.new.log (status_of c.ended_unread.result)
-    c.find_tail.ensures.reads
-    (λ not. c.find_tail.ensures.same (λ e. not (ap status_of
-    (c.ended_unread.ensures ∙ ap unread_end (same_fault _ c.in-Err.fault LogFault (sym c.in-Err.is ∙ e))))))
+pub returns-in-Err : goal.returns-in-Err
+returns-in-Err g c = record {
+  comes = λ told files.
+      let B = g.G.Printer in
+      let fault = c.in-Err.fault in
+      subst (λ (end : Ended). CallReachesLine g.F.Files B (Some Show) files files c.args.log.now c.find_tail.new.log
+      c.args.steps.now c.find_tail.new.steps end) (sym c.ended_unread.ensures)
+      (reaches_unread g.F.Files B
+      (Some Show) files files c.args.log.now c.find_tail.new.log c.args.steps.now c.find_tail.new.steps fault
+      (Show, refl)
+      (λ slot is. c.find_tail.ensures.bad slot (c.in-Err.is ∙ ap Err is) told)
+      (λ is. c.find_tail.ensures.broken (c.in-Err.is ∙ ap Err is) told)
+      (λ is. c.find_tail.ensures.cause.rose (c.in-Err.is ∙ ap Err is))
+      (unread_sync B (IsAsHeld B c.args.log.now) c.args.log.now c.find_tail.new.log c.find_tail.result fault c.in-Err.is
+      (c.find_tail.ensures.synced told)) c.find_tail.ensures.reads.text c.find_tail.ensures.steps);
+  unread = λ e. unread_no_read c.in-Err.fault (sym c.ended_unread.ensures ∙ e);
+  board_fault = rises_for _ _ (λ e. c.ended_unread.ensures ∙ ap unread_end
+      (same_fault _ c.in-Err.fault LogFault (sym c.in-Err.is ∙ e)))
+      (λ e. c.in-Err.is ∙ ap Err (unread_board c.in-Err.fault (sym c.ended_unread.ensures ∙ e)))
+      c.find_tail.ensures.cause;
+  has = rw c.ended_unread.ensures (unread_shows c.in-Err.fault);
+  looks = search_read g.G.Printer c.args.log.now c.find_tail.new.log (status_of c.ended_unread.result)
+      c.find_tail.ensures.reads
+      (λ not. c.find_tail.ensures.same (λ e. not (ap status_of
+      (c.ended_unread.ensures ∙ ap unread_end (same_fault _ c.in-Err.fault LogFault (sym c.in-Err.is ∙ e))))));
+  steps = search rules;
+}
 
 -- ---- the records are printed
 
@@ -96,6 +94,3 @@ returns-in-Err-show_records-clause-looks g c =
     c.in-Ok.is c.find_tail.ensures.same) c.show_records.ensures.keeps
 
 -- ---- the status
-
-pub returns-in-Err-clause-has : goal.returns-in-Err-clause-has
-returns-in-Err-clause-has g c = rw c.ended_unread.ensures (unread_shows c.in-Err.fault)
