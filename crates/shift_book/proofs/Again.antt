@@ -1,13 +1,14 @@
 -- The line of a mark is read as that mark.
 use Rattle.std.{specs.{Char.{digit_value, is_ascii_digit}, List.{prefix_len}}, proofs.lemmas.Bool.Decides.{nat_tests}}
 use Rattle.{std.specs.{Fmt.{decimal}, Str.Parse.{AllDigits}}, taxi_units.specs.Reading.{word_at}}
-use Rattle.std.proofs.Common.{[], ℕ, ◌++◌, ◌-◌, ◌<◌, ◌^◌, ◌∙◌, ◌∷◌, ◌≡◌, Bool, List, Some, ap, append_assoc, arith}
-use Rattle.std.proofs.{Common.{codes, eqb, false, length, refl, true}, Math.Seq.{drop-append_seam, take-append_seam}}
-use Rattle.std.proofs.lemmas.{Bool.{le-leb, le-ltb, lt-ltb, ne_eqb}, Fmt.{decimal_is_IsNumeral_wide}}
-use Rattle.shift_book.specs.{Common.{Numbers, digits_at_front, is_identifier_character}, Marks.{numbers_text}}
-use Rattle.shift_book.{specs.MarkOrder.{Fit}, proofs.Drivers.{whole_front}}
+use Rattle.std.proofs.Common.{[], ℕ, ◌++◌, ◌-◌, ◌<◌, ◌^◌, ◌∙◌, ◌∷◌, ◌≡◌, Bool, List, Option, Some, ap, append_assoc}
+use Rattle.std.proofs.{Common.{arith, codes, eqb, false, length, refl, true}, lemmas.Fmt.{decimal_is_IsNumeral_wide}}
+use Rattle.std.proofs.{Math.Seq.{drop-append_seam, take-append_seam}, lemmas.Bool.{le-leb, le-ltb, lt-ltb, ne_eqb}}
+use Rattle.shift_book.{specs.{Books.{IsNext}, MarkOrder.{Fit, numbers_in}}, proofs.GrowthSums.{at_least, fit_under}}
+use Rattle.shift_book.specs.{Common.{Durable, Numbers, digits_at_front, is_identifier_character}, Marks.{numbers_text}}
 use Rattle.shift_book.specs.Marks.{HasDriver, IsDriver, PassAll, Signing, head_text, mark_text, number_text}
 use Rattle.shift_book.specs.Reading.{amount_at, count_at, digits_at, driver_at, mark_at, numbers_at, off_at, on_at}
+use Rattle.shift_book.proofs.Drivers.{whole_front}
 
 is_digit : (c : ℕ) → digit_value c < 10 → is_ascii_digit c ≡ true
 is_digit c h = grind (arith, nat_tests)
@@ -78,3 +79,12 @@ pub mark_back : (mark : Signing) (rest : List ℕ) → HasDriver mark.on mark.dr
     → mark_at (mark_text mark ++ rest) ≡ Some mark
 mark_back mark rest valid fit = ap mark_at (append_assoc (head_text mark.on mark.driver)
     (numbers_text mark.numbers) rest) ∙ signing_back mark.on mark.driver rest mark.numbers valid fit
+
+-- so the mark at the front of a text is the one that is read there
+pub next_is : (now : Durable) (before : Option Signing) (text : List ℕ) (mark : Signing) (rest : List ℕ)
+    → Fit (numbers_in now)
+    → IsNext now before text mark rest → mark_at text ≡ Some mark
+next_is now before text mark rest fit next =
+    ap mark_at next.line
+    ∙ mark_back mark rest next.follows.driver (fit_under mark.numbers (numbers_in now)
+    (λ column. at_least column mark.numbers (numbers_in now) next.follows.within) fit)

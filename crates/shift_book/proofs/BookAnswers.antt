@@ -11,8 +11,8 @@ use Rattle.shift_book.specs.Common.{◌>>=◌, BadLine, BookFault, Durable, Numb
 use Rattle.shift_book.specs.MarkOrder.{Fit, IsNowhereLess, MayFollow, is_on, last_of, numbers_in}
 use Rattle.shift_book.specs.Marks.{HasDriver, Signing, book_text, head_text, mark_text, numbers_text}
 use Rattle.shift_book.specs.Reading.{driver_at, mark_at, mark_behind, numbers_at, off_at, on_at}
+use Rattle.shift_book.proofs.{Again.{next_is}, Once.{books_have_no_fault, books_have_one_list, faults_have_one_line}}
 use Rattle.shift_book.proofs.{DriverWords.{driver_read, value_of}, LongerBooks.{begins_more, rest_shrinks}}
-use Rattle.shift_book.proofs.{Nexts.{next_is}, Once.{books_have_no_fault, books_have_one_list, faults_have_one_line}}
 
 -- ---- the driver of a mark that is read is as said
 

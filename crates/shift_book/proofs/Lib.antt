@@ -10,8 +10,6 @@ pub mod DriverWords
 pub mod Drivers
 -- a report has no more shifts than marks, and no more drivers than shifts
 pub mod Fewer
--- the number that digits make, and the greatest
-pub mod Figures
 -- what grew between the points of a book adds up, column by column
 pub mod GrowthSums
 -- entries in the order of their keys, with one more
@@ -22,8 +20,6 @@ pub mod Laws
 pub mod Lines
 -- a book that has one mark more
 pub mod LongerBooks
--- the mark at the front of a text is the one that is read there
-pub mod Nexts
 -- a text is read one way
 pub mod Once
 -- the text of a report is put together from its lines

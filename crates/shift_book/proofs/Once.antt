@@ -2,7 +2,7 @@
 use Rattle.std.proofs.Common.{[], ℕ, ◌++◌, ◌+◌, ◌∙◌, ◌∷◌, ◌≡◌, List, None, Option, Some, ap, append_assoc, arith}
 use Rattle.std.proofs.{Common.{length, refl, subst, sym}, lemmas.List.{append_cancel_left, Concat.{flat_map-cons}}}
 use Rattle.shift_book.{specs.Books.{IsBook, IsFirstBad, IsNext}, proofs.LongerBooks.{behind, last_behind, rest_shrinks}}
-use Rattle.shift_book.{specs.Common.{Durable}, proofs.{DriverWords.{value_of}, Nexts.{next_is}}}
+use Rattle.shift_book.{specs.Common.{Durable}, proofs.{Again.{next_is}, DriverWords.{value_of}}}
 use Rattle.shift_book.specs.{MarkOrder.{Fit, FollowOn, numbers_in}, Marks.{Signing, book_text, mark_text}}
 
 -- no mark that may follow stands first
