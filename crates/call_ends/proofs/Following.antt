@@ -38,15 +38,19 @@ module _ {E T X : Type 0} {F : FileGhosts E} {word : ℕ} {files files' : E} {re
     not_board = no_fault _ _ _ refl;
   }
 
-  pub reads-bad : {fault : X} (end : X → Ended) → result ≡ Err fault → (end fault ≡ ReadFault → fault ≡ read)
-      → end read ≡ ReadFault → end fault ≢ BoardFault → ReadsWord F {T = T} word files files' (Err (end fault))
-  reads-bad end is only of_read not_board = record {
+  pub reads-fault : {fault : X} {why : Ended} → result ≡ Err fault → (why ≡ ReadFault → fault ≡ read)
+      → (fault ≡ read → why ≡ ReadFault) → why ≢ BoardFault → ReadsWord F {T = T} word files files' (Err why)
+  reads-fault is there back not_board = record {
     ended = λ tells. tt;
-    read_fault = λ e. rose (is ∙ ap Err (only (same_fault _ _ _ refl e)));
+    read_fault = λ e. rose (is ∙ ap Err (there (same_fault _ _ _ refl e)));
     others = others;
-    counts = λ not. counts (λ f. not (ap Err (ap end (same_fault _ _ _ is f) ∙ of_read)));
+    counts = λ not. counts (λ f. not (ap Err (back (same_fault _ _ _ is f))));
     not_board = λ e. not_board (same_fault _ _ _ refl e);
   }
+
+  pub reads-bad : {fault : X} (end : X → Ended) → result ≡ Err fault → (end fault ≡ ReadFault → fault ≡ read)
+      → end read ≡ ReadFault → end fault ≢ BoardFault → ReadsWord F {T = T} word files files' (Err (end fault))
+  reads-bad end is only of_read not_board = reads-fault is only (λ f. ap end f ∙ of_read) not_board
 
 module _ {E : Type 0} {F : FileGhosts E} {c : Command} {image : List ℕ} {told : Type 0} where
   -- nothing was read

@@ -16,6 +16,8 @@ pub mod Laws
 mod Making
 -- one answer has one fault, and what it says of another that it is equal to
 mod OneAnswer
+-- texts that are printed part by part
+mod PrintedParts
 -- a command that gives nothing: memory ran out, a read failed, or it refuses
 mod Refusals
 -- whether a command ended by a fault of the board

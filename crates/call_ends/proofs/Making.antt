@@ -1,19 +1,19 @@
 -- What a command has made, and how it ends once that is printed.
-use Rattle.{std.{specs.Prelude.{OnOk}, proofs.lemmas.List.{append-nil}}, call_ends.specs.Making.{text_made}}
+use Rattle.{std.{specs.Prelude.{OnOk}, proofs.lemmas.List.{append-nil}}, call_ends.specs.Carried.{Carries, no_board}}
 use Rattle.std.proofs.Common.{[], ℕ, ◌&&◌, ◌++◌, ◌+◌, ◌∙◌, ◌≡◌, ◌≢◌, ◌≤◌, ◌⊎◌, Bool, Err, List, None, Ok, Option}
 use Rattle.std.proofs.Common.{Result, ap, arith, eqb, false, inl, inr, length, not, refl, subst, sym, true, ⊎_elim}
-use Rattle.outside.{specs.Faults.{HasCause}, proofs.Laws.{begins_more, begins_not, keeps_none, rose_behind}}
 use Rattle.{outside.specs.declared.files.Files.{Ghosts as FileGhosts}, call_ends.specs.declared.made.Made.{Made}}
-use Rattle.call_ends.{specs.{Answer.{Answer}, Call.{MayTake}, Plan.{Last, Plan}}, proofs.Rests.{board_or_not}}
-use Rattle.call_ends.{specs.Carried.{Carries, no_board}, proofs.Refusals.{ends-failing, ends-lacking, ends-refused}}
-use Rattle.call_ends.specs.{Common.{Begins, Ended, Ghosts, KeepsStore, Refusal, Rose, TextFault}, Tariffs.{bad_tariff}}
+use Rattle.{outside.proofs.Laws.{begins_more, begins_not, keeps_none, rose_behind}, call_ends.specs.Making.{text_made}}
+use Rattle.call_ends.specs.{Answer.{Answer}, Call.{MayTake}, Pieces.{pieces_of}, Plan.{Last, Plan}}
+use Rattle.call_ends.specs.Common.{Begins, Ended, Ghosts, HasCause, KeepsStore, Refusal, Rose, TextFault}
 use Rattle.call_ends.specs.Course.{Answered, BoardFailed, Command, Course, NoMemory, ReadFailed, line_in, shown_in}
-use Rattle.call_ends.specs.{Ending.{EndsByCourse, EndsUnprinted, IsBrokenOff, IsDue, ended_for}, Pieces.{pieces_of}}
+use Rattle.call_ends.specs.{Ending.{EndsByCourse, EndsUnprinted, IsBrokenOff, IsDue, ended_for}, Tariffs.{bad_tariff}}
 use Rattle.call_ends.specs.{LastLine.{line_of, refused_as, status_of}, TextCommands.{text_command, word_command}}
 use Rattle.call_ends.specs.Making.{EndsWithText, IsMade, Makes, Prints, answer_with, end_made, end_printed, is_plain}
 use Rattle.call_ends.{specs.Reads.{FailsOr, GoesTo, ReadsWord}, proofs.CallsWithoutDevices.{carries-kept, carries-said}}
-use Rattle.call_ends.{specs.Stream.{Stream, TakesBytes, bad_status}, proofs.{Endings.{may-then}, OneAnswer.{no_fault}}}
+use Rattle.call_ends.{specs.Stream.{Stream, TakesBytes, bad_status}, proofs.{Endings.{may-then}, Rests.{board_or_not}}}
 use Rattle.call_ends.proofs.{EndsApart.{board_not_read}, Following.{fails_as, goes-all, goes-none, goes-on, stops-with}}
+use Rattle.call_ends.proofs.{OneAnswer.{no_fault}, Refusals.{ends-failing, ends-lacking, ends-refused, ends-unread}}
 use Rattle.call_ends.specs.declared.ending.Ended.TheVariants as ended
 use Rattle.call_ends.specs.declared.tariff.TextFault.TheVariants as texts
 
@@ -217,23 +217,22 @@ ends-plain {c = c} is {contents = contents} {left = left} {image = image} {read_
     (λ (z : status_of why ≡ 11). test_apart is_refusal (status_of why) 11 h.final refl z) (is.all _ all))
     (λ e. absurd (test_apart is_refusal (status_of why) 3 h.final refl (e ∙ is.bad)))
 
-module _ {E : Type 0} {F : FileGhosts E} {c : Command} {image : List ℕ} (is : MakesText c) {turn : ℕ}
-    {files files' : E} where
+module _ {E : Type 0} {F : FileGhosts E} {c : Command} {image : List ℕ} {turn : ℕ} {files files' : E} where
   -- the answer is known
-  pub makes-answer : (text : List ℕ) (end : Ended) → GoesTo F c image F.tells turn files files'
-      → is_plain (status_of end) ≡ true
+  pub makes-known : ((status : ℕ) → c.reads_all status → (status ≡ 0) ⊎ (status ≡ 11)) → bad_status c.drive ≡ 3
+      → (text : List ℕ) (end : Ended) → GoesTo F c image F.tells turn files files' → is_plain (status_of end) ≡ true
       → (F.tells → c.answer (F.rest files) image ≡ answer_with text end)
       → (F.tells → (status_of end ≡ 0) ⊎ (status_of end ≡ 11) → (word : ℕ) → c.reads word → F.rest files' word ≡ [])
       → Makes F c image files files' text end
-  makes-answer text end goes plain answer read = record {
+  makes-known all_read bad text end goes plain answer read = record {
     comes = λ tells.
         let at : (c.answer (F.rest files) image).status ≡ status_of end = ap (λ (a : Answer). a.status) (answer tells)
         in
         record {
           course = Answered;
           may = record {
-            whole = λ all. read tells (subst (λ (s : ℕ). (s ≡ 0) ⊎ (s ≡ 11)) at (is.all _ all));
-            bad = λ e. absurd (test_apart is_plain (status_of end) 3 plain refl (sym at ∙ (e ∙ is.bad)));
+            whole = λ all. read tells (subst (λ (s : ℕ). (s ≡ 0) ⊎ (s ≡ 11)) at (all_read _ all));
+            bad = λ e. absurd (test_apart is_plain (status_of end) 3 plain refl (sym at ∙ (e ∙ bad)));
           };
           stands = inl (record {
             status_is = sym at;
@@ -246,18 +245,65 @@ module _ {E : Type 0} {F : FileGhosts E} {c : Command} {image : List ℕ} (is : 
   }
 
   -- memory ran out
-  pub makes-none : (taken : List ℕ) → GoesTo F c image F.tells turn files files'
+  pub makes-lacking : (taken : List ℕ) → GoesTo F c image F.tells turn files files'
       → (F.tells → TakesBytes c.drive (F.rest files) (F.rest files') taken)
       → (F.tells → c.may_lack (F.rest files) image taken)
       → Makes F c image files files' [] ended.NoMemory
-  makes-none taken goes takes lacks = record {
+  makes-lacking taken goes takes lacks = record {
     comes = λ tells.
         ends-lacking c (F.rest files) (F.rest files') image _ taken (takes tells) (lacks tells);
     follows = goes-all goes (λ e. absurd cc);
     not_board = λ e. absurd cc;
   }
 
-  -- a word gives nothing
+  module _ {T : Type 0} {mid : E} {result : Result T Ended} {why : Ended} (word : ℕ) (taken : List ℕ)
+      (goes : GoesTo F c image F.tells turn files mid) (read : ReadsWord F word mid files' result)
+      (failed : result ≡ Err why) (order : turn ≤ c.turn word) (reads : c.reads word)
+      (comes : F.tells → c.comes_to (F.rest files) image word taken)
+      (takes : F.tells → TakesBytes c.drive (F.rest files) (F.rest files') taken)
+      (quiet : c.shown (F.rest files) image taken ≡ []) where
+    abbrev Ends : Ended → Type 0
+    Ends end = EndsUnprinted c (F.rest files) (F.rest files') image
+        (λ word. Rose (F.faults files word) (F.faults files' word)) end
+
+    rose : why ≡ ended.ReadFault → Rose (F.faults files word) (F.faults files' word)
+    rose e = rose_behind _ _ _ (goes.counts word) (read.read_fault (failed ∙ ap Err e))
+
+    stopped : (F.tells → Ends why) → Makes F c image files files' [] why
+    stopped ends = record {
+      comes = ends;
+      follows = stops-with word taken goes read order reads comes failed;
+      not_board = λ e. read.not_board (failed ∙ ap Err e);
+    }
+
+    -- a word wasn't read
+    pub makes-stopped : why ≡ ended.ReadFault → Makes F c image files files' [] why
+    makes-stopped e = stopped (λ tells. subst (λ (end : Ended). Ends end) (sym e)
+        (ends-unread c (F.rest files) (F.rest files') image _ taken (takes tells) word quiet reads (comes tells)
+        (rose e)))
+
+    -- a word gives nothing
+    pub makes-nothing : (F.tells → c.may_lack (F.rest files) image taken)
+        → (F.tells → FailsOr (λ (end : Ended). Ends end) why) → Makes F c image files files' [] why
+    makes-nothing lacks refused = stopped (λ tells. ends-failing c (F.rest files) (F.rest files') image _ taken
+        (takes tells) (lacks tells) word _ quiet reads (comes tells) rose (refused tells))
+
+module _ {E : Type 0} {F : FileGhosts E} {c : Command} {image : List ℕ} (is : MakesText c) {turn : ℕ}
+    {files files' : E} where
+  -- so do the commands that make a text of files alone
+  pub makes-answer : (text : List ℕ) (end : Ended) → GoesTo F c image F.tells turn files files'
+      → is_plain (status_of end) ≡ true
+      → (F.tells → c.answer (F.rest files) image ≡ answer_with text end)
+      → (F.tells → (status_of end ≡ 0) ⊎ (status_of end ≡ 11) → (word : ℕ) → c.reads word → F.rest files' word ≡ [])
+      → Makes F c image files files' text end
+  makes-answer = makes-known is.all is.bad
+
+  pub makes-none : (taken : List ℕ) → GoesTo F c image F.tells turn files files'
+      → (F.tells → TakesBytes c.drive (F.rest files) (F.rest files') taken)
+      → (F.tells → c.may_lack (F.rest files) image taken)
+      → Makes F c image files files' [] ended.NoMemory
+  makes-none = makes-lacking
+
   pub makes-failing : {T : Type 0} {mid : E} {result : Result T Ended} {why : Ended} (word : ℕ) (taken : List ℕ)
       → GoesTo F c image F.tells turn files mid → ReadsWord F word mid files' result → result ≡ Err why
       → turn ≤ c.turn word → c.reads word → (F.tells → c.comes_to (F.rest files) image word taken)
@@ -266,14 +312,8 @@ module _ {E : Type 0} {F : FileGhosts E} {c : Command} {image : List ℕ} (is : 
       → (F.tells → FailsOr (EndsUnprinted c (F.rest files) (F.rest files') image
       (λ word. Rose (F.faults files word) (F.faults files' word))) why)
       → Makes F c image files files' [] why
-  makes-failing word taken goes read failed order reads comes takes lacks refused = record {
-    comes = λ tells.
-        ends-failing c (F.rest files) (F.rest files') image _ taken (takes tells) (lacks tells) word _
-        (is.quiet (F.rest files) image taken) reads (comes tells)
-        (λ e. rose_behind _ _ _ (goes.counts word) (read.read_fault (failed ∙ ap Err e))) (refused tells);
-    follows = stops-with word taken goes read order reads comes failed;
-    not_board = λ e. read.not_board (failed ∙ ap Err e);
-  }
+  makes-failing word taken goes read failed order reads comes takes lacks refused = makes-nothing word taken goes read
+      failed order reads comes takes (is.quiet (F.rest files) image taken) lacks refused
 
 -- ---- commands of one word
 

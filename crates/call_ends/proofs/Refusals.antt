@@ -27,31 +27,38 @@ module _ (c : Command) (contents left : ℕ → List ℕ) (image : List ℕ) (re
         });
       }
 
-  module _ (taken : List ℕ) (takes : TakesBytes c.drive contents left taken)
-      (may : c.may_lack contents image taken) where
-    -- memory ran out
-    pub ends-lacking : EndsUnprinted c contents left image read_failed ended.NoMemory
-    ends-lacking = record {
-      course = NoMemory;
-      may = record { taken = taken; may = may; takes = takes };
-      stands = inl (record { status_is = refl; line_is = refl; shown = refl });
+  module _ (taken : List ℕ) (takes : TakesBytes c.drive contents left taken) where
+    -- a read failed
+    pub ends-unread : (word : ℕ) → c.shown contents image taken ≡ [] → c.reads word
+        → c.comes_to contents image word taken → read_failed word
+        → EndsUnprinted c contents left image read_failed ended.ReadFault
+    ends-unread word quiet reads comes failed = record {
+      course = ReadFailed word taken;
+      may = record { reads = reads; comes = comes; failed = failed; takes = takes };
+      stands = inl (record { status_is = refl; line_is = refl; shown = quiet });
     }
 
-    -- a word gives nothing
-    pub ends-failing : (word : ℕ) (why : Ended) → c.shown contents image taken ≡ [] → c.reads word
-        → c.comes_to contents image word taken → (why ≡ ended.ReadFault → read_failed word)
-        → FailsOr (EndsUnprinted c contents left image read_failed) why
-        → EndsUnprinted c contents left image read_failed why
-    ends-failing word why quiet reads comes failed h = ⊎_elim
-        (λ (e : why ≡ ended.ReadFault). subst (EndsUnprinted c contents left image read_failed) (sym e) (record {
-          course = ReadFailed word taken;
-          may = record { reads = reads; comes = comes; failed = failed e; takes = takes };
-          stands = inl (record { status_is = refl; line_is = refl; shown = quiet });
-        }))
-        (⊎_elim (λ (e : why ≡ ended.NoMemory). subst (EndsUnprinted c contents left image read_failed) (sym e)
-        ends-lacking)
-        (λ (refused : EndsUnprinted c contents left image read_failed why). refused))
-        h.how
+    module _ (may : c.may_lack contents image taken) where
+      -- memory ran out
+      pub ends-lacking : EndsUnprinted c contents left image read_failed ended.NoMemory
+      ends-lacking = record {
+        course = NoMemory;
+        may = record { taken = taken; may = may; takes = takes };
+        stands = inl (record { status_is = refl; line_is = refl; shown = refl });
+      }
+
+      -- a word gives nothing
+      pub ends-failing : (word : ℕ) (why : Ended) → c.shown contents image taken ≡ [] → c.reads word
+          → c.comes_to contents image word taken → (why ≡ ended.ReadFault → read_failed word)
+          → FailsOr (EndsUnprinted c contents left image read_failed) why
+          → EndsUnprinted c contents left image read_failed why
+      ends-failing word why quiet reads comes failed h = ⊎_elim
+          (λ (e : why ≡ ended.ReadFault). subst (EndsUnprinted c contents left image read_failed) (sym e)
+          (ends-unread word quiet reads comes (failed e)))
+          (⊎_elim (λ (e : why ≡ ended.NoMemory). subst (EndsUnprinted c contents left image read_failed) (sym e)
+          ends-lacking)
+          (λ (refused : EndsUnprinted c contents left image read_failed why). refused))
+          h.how
 
 module _ (c : Command) (contents left : ℕ → List ℕ) (image : List ℕ) (read_failed : ℕ → Type 0)
     (untouched : TakesBytes c.drive contents left []) (may : c.may_lack contents image []) where

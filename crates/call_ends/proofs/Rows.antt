@@ -26,7 +26,7 @@ printed-row row i a b c text e so_far whole =
     ∙ append_assoc a (flat_map row (range_with_len 0 i)) (row i) ∙ ap (λ (t : List ℕ). a ++ t) (sym (rows-more row i))
 
 -- the first rows, and those that are left
-rows-split : (row : ℕ → List ℕ) (i d : ℕ)
+pub rows-split : (row : ℕ → List ℕ) (i d : ℕ)
     → (rest : List ℕ) × (flat_map row (range_with_len 0 (i + d)) ≡ flat_map row (range_with_len 0 i) ++ rest)
 rows-split row i zero = (
   [],

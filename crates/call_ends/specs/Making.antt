@@ -1,9 +1,9 @@
 -- For proofs: what a command has made before it prints, and how it ends once it is printed.
-use Rattle.std.specs.Prelude.{[], ℕ, ◌&&◌, ◌++◌, ◌+◌, ◌≡◌, ◌≢◌, ◌≤◌, ◌⊎◌, Bool, Err, List, Ok, Result, eqb, not, true}
-use Rattle.{outside.specs.declared.files.Files.{Ghosts as FileGhosts}, call_ends.specs.LastLine.{line_of, status_of}}
-use Rattle.call_ends.specs.{Answer.{Answer}, Ending.{EndsByCourse, HasCauseOn}, declared.made.Made.{Made}}
-use Rattle.call_ends.specs.{Common.{Begins, BoardFault, Ended, Ghosts, KeepsStore, NoMemory, Rose}, Course.{Command}}
-use Rattle.call_ends.specs.Reads.{Follows}
+use Rattle.std.specs.Prelude.{[], ℕ, ◌&&◌, ◌++◌, ◌+◌, ◌≡◌, ◌≢◌, ◌≤◌, ◌⊎◌, Bool, Err, List, Ok, OnOk, Result, eqb, not}
+use Rattle.{std.specs.Prelude.{true}, outside.specs.declared.files.Files.{Ghosts as FileGhosts}}
+use Rattle.call_ends.specs.{Answer.{Answer}, Course.{Command}, Reads.{Follows}}
+use Rattle.call_ends.specs.Common.{Begins, BoardFault, Ended, Ghosts, HasCause, KeepsStore, NoMemory, Rose}
+use Rattle.call_ends.specs.{Ending.{EndsByCourse, HasCauseOn}, LastLine.{line_of, status_of}, declared.made.Made.{Made}}
 
 -- the text of what was made, which is empty if nothing was
 abbrev pub text_made : Result Made Ended → List ℕ
@@ -55,5 +55,14 @@ pub record Prints {D L : Type 0} {N : ℕ} (B : Ghosts D N L) (text : List ℕ) 
   pub whole : ended ≢ BoardFault → B.tells_text → B.printed new ≡ B.printed old ++ text
   pub begun : B.tells_text → Begins (B.printed old) (B.printed new) text
   pub cause : HasCauseOn B old new ended
+  pub steps : now ≤ before + most
+  pub store : KeepsStore B old new
+
+-- a text is printed in at most so many steps, or its print fails behind a beginning of it
+pub record PrintsOut {T E D L : Type 0} {N : ℕ} (B : Ghosts D N L) (text : List ℕ) (most : ℕ) (old new : D)
+    (before now : ℕ) (result : Result T E) : Type 0 where
+  pub whole : B.tells_text → OnOk result (B.printed new ≡ B.printed old ++ text)
+  pub begun : B.tells_text → Begins (B.printed old) (B.printed new) text
+  pub cause : HasCause (B.faults old) (B.faults new) result
   pub steps : now ≤ before + most
   pub store : KeepsStore B old new

@@ -1,6 +1,6 @@
 //! Prints a text from memory, in pieces.
 ghost use Rattle.std.specs.Prelude.{◌++◌, ◌+◌, ◌≡◌, ◌≤◌, OnOk, length};
-ghost use Rattle.{outside.specs.Faults.{HasCause}, call_ends.specs.{Common.{Begins, KeepsStore}, Pieces.{pieces_of}}};
+ghost use Rattle.call_ends.specs.{Common.{Begins, HasCause, KeepsStore}, Pieces.{pieces_of}};
 
 use outside::{Failed, Printer, STORE_SIZE};
 use std::sync::ledger::Ledger;

@@ -12,7 +12,7 @@ mod OffsetLines
 mod Openings
 -- the replies to requests over a sealed store, and what is left of the store
 mod PortReplies
--- which faults of parameters, rules and books are those of a read
+-- which faults of parameters and rules are those of a read
 mod ReadFaults
 -- what a cut leaves of calls that only look at the store
 mod ReadOnlyCalls

@@ -1,12 +1,13 @@
 -- The lines of a list of offsets that are printed, one after the other, and the answers of the command.
-use Rattle.std.proofs.Common.{[], ℕ, ℤ, ◌++◌, ◌+◌, ◌<◌, ◌∙◌, ◌∷◌, ◌≡◌, ◌≢◌, ◌≤◌, Err, List, Ok, ap, append_assoc, drop}
-use Rattle.{std.proofs.Common.{get_or, inl, inr, length, refl, subst, sym, take}, offset_rules.specs.Pairs.{pairs_of}}
+use Rattle.std.proofs.Common.{[], ℕ, ℤ, ◌++◌, ◌+◌, ◌<◌, ◌∙◌, ◌∷◌, ◌≡◌, ◌≤◌, Err, List, Ok, ap, append_assoc, arith}
+use Rattle.std.proofs.Common.{drop, get_or, inl, length, refl, subst, sym, take, ⊎_elim}
 use Rattle.std.proofs.lemmas.{Grind.{flat_map-append}, List.{append-nil, take-append-drop, take_all, take_more}}
+use Rattle.{outside.specs.declared.files.Files.{Ghosts as FileGhosts}, offset_rules.specs.Pairs.{pairs_of}}
 use Rattle.{outside.proofs.Laws.{begins_after, begins_more, begins_whole}, offset_rules.specs.Reading.{rules_read}}
-use Rattle.{offset_rules.specs.Texts.{offset_line, offset_lines}, call_ends.specs.Call.{MayTake}}
-use Rattle.store_commands.specs.Common.{Answer, Answered, Begins, Ended, EndsByCourse, ReadFailed, Rule, RuleFault}
-use Rattle.store_commands.specs.{Common.{RulesFault}, Offsets.{offsets_answer, offsets_command}}
-use Rattle.store_commands.specs.StoreEnds.{ended_for_rules}
+use Rattle.{offset_rules.specs.Texts.{offset_line, offset_lines}, call_ends.specs.Reads.{ReadsWord}}
+use Rattle.call_ends.proofs.Laws.{MakesText, goes-none, goes-on, makes-answer, makes-stopped, no_fault}
+use Rattle.store_commands.specs.Common.{Begins, Makes, Rule, RuleFault, RulesFault, shows}
+use Rattle.store_commands.specs.{Offsets.{offsets_answer, offsets_command}, StoreEnds.{ended_for_rules}}
 use Rattle.call_ends.specs.declared.ending.Ended.TheVariants as ended
 use Rattle.store_commands.specs.declared.offsets.RulesFault.TheVariants as faults
 
@@ -65,101 +66,35 @@ begins_end p q pairs n le h = begins_whole p q (offset_lines pairs) (printed_all
 
 -- ---- the answers
 
-zero_three : (n : ℕ) → n ≡ 0 → n ≢ 3
-zero_three n e f = absurd cc
+pub makes_offsets : (years : ℕ × ℕ) → MakesText (offsets_command years)
+makes_offsets years = record {
+  shut = λ none. none;
+  unwritten = λ status none. none;
+  told = λ files_tell image_told tells. tells;
+  quiet = λ contents image taken. refl;
+  all = λ status zero. inl zero;
+  bad = refl;
+}
 
-bad_zero : (n : ℕ) → n ≡ 17 → n ≢ 0
-bad_zero n e f = absurd cc
-
-bad_three : (n : ℕ) → n ≡ 17 → n ≢ 3
-bad_three n e f = absurd cc
-
-module _ (years : ℕ × ℕ) (contents left : ℕ → List ℕ) (image : List ℕ) (read_failed : ℕ → Type 0) (failed told : Type 0)
-    (before now : List ℕ) where
-  abbrev Here : Ended → Type 0
-  Here end = EndsByCourse (offsets_command years) contents left image read_failed failed
-      (λ text. told → now ≡ before ++ text) (λ text. told → Begins before now text) end
-
-  -- nothing was printed
-  nothing : now ≡ before → (text : List ℕ) → text ≡ [] → now ≡ before ++ text
-  nothing still text e = still ∙ sym (ap (λ (x : List ℕ). before ++ x) e ∙ append-nil before)
-
-  course-unread : now ≡ before → read_failed 1 → Here ended.ReadFault
-  course-unread still cause = record {
-    course = ReadFailed 1 [];
-    may = record { reads = refl; comes = refl; failed = cause; takes = refl };
-    stands = inl (record { status_is = refl; line_is = refl; shown = λ tells. nothing still [] refl });
-  }
-
-  course-bad_rules : (fault : RuleFault) → rules_read (contents 1) ≡ Err fault → now ≡ before
-      → Here (ended.BadRules fault)
-  course-bad_rules fault is still =
-      let e : offsets_answer years (rules_read (contents 1)) ≡ offsets_answer years (Err fault) =
-      ap (offsets_answer years) is in
-      let status : (offsets_answer years (rules_read (contents 1))).status ≡ 17 = ap (λ (a : Answer). a.status) e in
-      record {
-        course = Answered;
-        may = record {
-          whole = λ z. absurd (bad_zero _ status z);
-          bad = λ z. absurd (bad_three _ status z);
-        };
-        stands = inl (record {
-          status_is = sym status;
-          line_is = sym (ap (λ (a : Answer). a.line) e);
-          shown = λ tells. nothing still (offsets_answer years (rules_read (contents 1))).shown
-              (ap (λ (a : Answer). a.shown) e);
-        });
-      }
-
+module _ {E : Type 0} {F : FileGhosts E} (years : ℕ × ℕ) {image : List ℕ} {files files' : E} where
   -- the rules weren't read
-  pub course-refused : (fault : RulesFault) → now ≡ before → (fault ≡ faults.ReadFault → read_failed 1)
-      → ((why : RuleFault) → fault ≡ faults.Refused why → rules_read (contents 1) ≡ Err why)
-      → Here (ended_for_rules fault)
-  course-refused faults.ReadFault still cause refused = course-unread still (cause refl)
-  course-refused (faults.Refused why) still cause refused = course-bad_rules why (refused why refl) still
+  pub no_rules : {T : Type 0} (fault : RulesFault)
+      → ReadsWord F {T = T} 1 files files' (Err (ended_for_rules fault))
+      → ((why : RuleFault) → F.tells → fault ≡ faults.Refused why → rules_read (F.rest files 1) ≡ Err why)
+      → Makes F (offsets_command years) image files files' [] (ended_for_rules fault)
+  no_rules faults.ReadFault read refused = makes-stopped 1 [] (goes-none files) read refl (omega arith) refl
+      (λ tells. refl) (λ tells. refl) refl refl
+  no_rules (faults.Refused why) read refused = makes-answer (makes_offsets years) [] (ended.BadRules why)
+      (goes-on 1 [] (goes-none files) read (omega arith) refl (λ tells. refl) (λ e. absurd cc)) refl
+      (λ tells. ap (offsets_answer years) (refused why tells refl))
+      (λ tells. ⊎_elim (λ (z : 17 ≡ 0). absurd (omega (arith, z))) (λ (z : 17 ≡ 11). absurd (omega (arith, z))))
 
-  -- the lines of the list, and a beginning of them
-  module _ (rule : Rule) (pairs : List (ℕ × ℤ)) (is : rules_read (contents 1) ≡ Ok rule)
-      (are : pairs ≡ pairs_of rule years.0 years.1) (read : left 1 ≡ []) where
-    answer_is : offsets_answer years (rules_read (contents 1)) ≡ offsets_answer years (Ok rule)
-    answer_is = ap (offsets_answer years) is
-
-    zero : (offsets_answer years (rules_read (contents 1))).status ≡ 0
-    zero = ap (λ (a : Answer). a.status) answer_is
-
-    no_line : (offsets_answer years (rules_read (contents 1))).line ≡ []
-    no_line = ap (λ (a : Answer). a.line) answer_is
-
-    lines_are : (offsets_answer years (rules_read (contents 1))).shown ≡ offset_lines pairs
-    lines_are = ap (λ (a : Answer). a.shown) answer_is ∙ sym (ap offset_lines are)
-
-    may : MayTake (offsets_command years) contents left image read_failed failed Answered
-    may = record {
-      whole = λ z word reads. ap left reads ∙ read;
-      bad = λ z. absurd (zero_three _ zero z);
-    }
-
-    pub course-lines : (told → now ≡ before ++ offset_lines pairs) → Here ended.Done
-    course-lines printed = record {
-      course = Answered;
-      may = may;
-      stands = inl (record {
-        status_is = sym zero;
-        line_is = sym no_line;
-        shown = λ tells. printed tells ∙ ap (λ (x : List ℕ). before ++ x) (sym lines_are);
-      });
-    }
-
-    pub course-lines_begun : (told → Begins before now (offset_lines pairs)) → failed → Here ended.BoardFault
-    course-lines_begun begun cause = record {
-      course = Answered;
-      may = may;
-      stands = inr (record {
-        ended_is = refl;
-        failed = cause;
-        started = λ tells. subst (λ (x : List ℕ). Begins before now x)
-            (sym (ap (λ (x : List ℕ). x ++ (offsets_answer years (rules_read (contents 1))).line) lines_are
-            ∙ ap (λ (x : List ℕ). offset_lines pairs ++ x) no_line ∙ append-nil (offset_lines pairs)))
-            (begun tells);
-      });
-    }
+  -- the lines of the list of rules that were read
+  pub of_rules : {T : Type 0} {x : T} → ReadsWord F 1 files files' (Ok x) → (rule : Rule) (pairs : List (ℕ × ℤ))
+      → (F.tells → rules_read (F.rest files 1) ≡ Ok rule) → pairs ≡ pairs_of rule years.0 years.1
+      → (F.tells → F.rest files' 1 ≡ [])
+      → Makes F (offsets_command years) image files files' (offset_lines pairs) ended.Done
+  of_rules read rule pairs is are whole = makes-answer (makes_offsets years) (offset_lines pairs) ended.Done
+      (goes-on 1 [] (goes-none files) read (omega arith) refl (λ tells. refl) (no_fault _ _ _ refl)) refl
+      (λ tells. ap (offsets_answer years) (is tells) ∙ ap (λ (ps : List (ℕ × ℤ)). shows (offset_lines ps)) (sym are))
+      (λ tells final word reads. ap (F.rest files') reads ∙ whole tells)

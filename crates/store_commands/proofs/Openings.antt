@@ -3,7 +3,7 @@ use Rattle.std.proofs.Common.{ℕ, ◌∙◌, ◌≡◌, Err, List, Ok, Option, 
 use Rattle.{outside.specs.Disk.{MayLeave}, slot_store.proofs.Laws.{from_sync_as, goes_on, held_on}}
 use Rattle.{slot_store.specs.Slots.{IsAt, IsBlank}, call_ends.proofs.Laws.{no_fault, same_fault}}
 use Rattle.store_commands.specs.Common.{Blank, Durable, Ended, Found, Ghosts, IsAsFound, IsAsHeld, IsAtRest, Latest}
-use Rattle.store_commands.specs.Common.{LeavesFromSync, LeavesOnly, Opening, Place, ReadsOnly, Seal, SlotFault}
+use Rattle.store_commands.specs.Common.{LeavesFromSync, LeavesOnly, Opening, Place, ReadsOnly, Rose, Seal, SlotFault}
 use Rattle.store_commands.specs.{Common.{found_at}, declared.opening.StoreFault.TheVariants.{BoardFault}}
 use Rattle.store_commands.specs.Opened.{OnlyOpens}
 use Rattle.store_commands.specs.Opening.{fault_from, opening_by, opening_in, sealed_or, sealed_store, store_of}
@@ -49,6 +49,14 @@ pub store_opened : (image : List ℕ) (opening : Opening) (found : Option (Durab
     → Ok opening ≡ opening_in image
     → found ≡ sealed_store opening.totals opening.seal → store_of (opening_in image) ≡ sealed_or found
 store_opened image opening found e f = ap store_of (sym e) ∙ ap sealed_or (sym f)
+
+-- an opening, of what its clauses say
+pub opens-by : {D L : Type 0} {N : ℕ} {B : Ghosts D N L} {fails : Type 0} {old new : D} → ReadsOnly B old new
+    → (B.tells_image → LeavesFromSync B fails old new (IsAsHeld B old))
+    → (B.tells_image → ¬ fails → IsAtRest B new) → (¬ fails → B.image new ≡ B.image old)
+    → (¬ fails → B.faults new ≡ B.faults old) → (fails → Rose (B.faults old) (B.faults new)) → OnlyOpens B fails old new
+opens-by reads synced settled same count cause =
+    record { reads = reads; synced = synced; settled = settled; same = same; count = count; cause = cause }
 
 -- an opening, if what fails is known by another name
 pub opens-as : {D L : Type 0} {N : ℕ} (B : Ghosts D N L) (fails fails' : Type 0) (old new : D) → (fails → fails')

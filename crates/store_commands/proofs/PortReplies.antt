@@ -3,12 +3,24 @@ use Rattle.std.proofs.Common.{[], ℕ, ◌++◌, ◌∙◌, ◌≡◌, Err, List
 use Rattle.{std.proofs.lemmas.List.{append-nil}, data_port.specs.ServedStream.{requests_of, stream_end}}
 use Rattle.data_port.specs.{Reading.{requests_in}, declared.serving.PortFault.{PortFault}}
 use Rattle.data_port.specs.ServedStream.{BadAt, Endless, Serves, ServesTo, ShowsEnd, StreamEnd, Whole, replies}
-use Rattle.{call_ends.specs.Course.{BoardFailed}, store_commands.specs.Common.{line_of, status_of}}
-use Rattle.store_commands.specs.Common.{Answer, Answered, Begins, Durable, Ended, EndsByCourse, ReadFailed, Seal}
-use Rattle.store_commands.specs.{Opening.{opening_in, store_of}, StoreEnds.{ended_serving}}
+use Rattle.{call_ends.specs.Course.{BoardFailed, ReadFailed}, store_commands.specs.Common.{status_of}}
+use Rattle.store_commands.specs.Common.{Answer, Answered, Begins, Durable, Ended, EndsByCourse, Seal, line_of}
+use Rattle.store_commands.{specs.Opening.{opening_in, store_of}, proofs.StoreTexts.{LooksAtSealed}}
 use Rattle.store_commands.specs.Port.{port_answer, port_command, replies_over, requests_answer}
+use Rattle.store_commands.specs.StoreEnds.{ended_serving}
 use Rattle.data_port.specs.declared.serving.PortFault.TheVariants as faults
 use Rattle.call_ends.specs.declared.ending.Ended.TheVariants as ended
+
+pub ports_look : LooksAtSealed port_command (λ contents store. port_answer store (contents 1))
+ports_look = record {
+  opens = tt;
+  unwritten = λ status none. none;
+  answers = λ contents image. refl;
+  refuses = λ contents why. refl;
+  untouched = λ contents. record { bytes = refl };
+  all = λ status zero. zero;
+  told = λ files_tell image_told told. told.1;
+}
 
 -- the status of requests that end so
 status_end : (shown : List ℕ) (reached : StreamEnd) → (requests_answer shown reached).status ≡ 0 → reached ≡ Whole

@@ -1,10 +1,10 @@
 -- Calls that only look at the store: what a cut leaves from their opening sync on.
 use Rattle.std.proofs.{Common.{[], ℕ, ◌∙◌, ◌≡◌, ◌≢◌, ◌⊎◌, List, ap, inl, inr, subst, sym}, lemmas.List.{ext_get_or}}
-use Rattle.{outside.{specs.Runs.{LeavesNow}, proofs.Laws.{leaves_kept, leaves_wider}}, call_ends.specs.Call.{IsEnd}}
-use Rattle.{slot_store.proofs.Laws.{from_sync_as, goes_on}, store_commands.specs.Common.{MayHold, line_of, status_of}}
-use Rattle.{call_ends.specs.Ending.{LeavesImageSettled, LeavesStoreUnwritten}, store_commands.specs.Opened.{OnlyOpens}}
-use Rattle.call_ends.{specs.Unwritten.{LeavesImage}, proofs.Laws.{board_or_not, bytes-kept, bytes-read, bytes-then}}
+use Rattle.outside.{specs.Runs.{LeavesNow}, proofs.Laws.{leaves_kept, leaves_wider}}
+use Rattle.{slot_store.proofs.Laws.{from_sync_as, goes_on}, call_ends.specs.{Call.{IsEnd}, Unwritten.{LeavesImage}}}
+use Rattle.call_ends.{specs.Ending.{LeavesImageSettled}, proofs.Laws.{board_or_not, bytes-kept, bytes-read, bytes-then}}
 use Rattle.store_commands.specs.Common.{Ended, Ghosts, IsAsHeld, IsAtRest, KeepsStore, LeavesFromSync, LeavesOnly}
+use Rattle.store_commands.specs.{Common.{LeavesStoreUnwritten, MayHold, line_of, status_of}, Opened.{OnlyOpens}}
 use Rattle.call_ends.specs.declared.ending.Ended.TheVariants as ended
 
 module _ {D L : Type 0} {N : ℕ} (B : Ghosts D N L) where

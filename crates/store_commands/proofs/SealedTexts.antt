@@ -1,10 +1,9 @@
 -- The text of what a store was sealed with, part by part.
 use Rattle.std.{specs.{Fmt.{decimal}, Prelude.{codes}}, proofs.lemmas.{Grind.{flat_map-append}, List.{append-nil}}}
-use Rattle.std.proofs.Common.{[], ℕ, ℤ, ◌++◌, ◌∙◌, ◌∷◌, ◌≡◌, List, ap, append_assoc, map, negsuc, pos, refl, subst, sym}
-use Rattle.{outside.proofs.Laws.{begins_after, begins_more}, offset_rules.specs.Texts.{offset_lines}}
+use Rattle.std.proofs.Common.{[], ℕ, ℤ, ◌++◌, ◌∙◌, ◌∷◌, ◌≡◌, List, ap, append_assoc, map, negsuc, pos, refl, sym}
+use Rattle.{offset_rules.specs.Texts.{offset_lines}, receipt_text.specs.Receipts.{day_text, hex_text}}
 use Rattle.seal_record.specs.PlainText.{offset_line, offset_text, secured_line, settings_lines}
-use Rattle.{receipt_text.specs.Receipts.{day_text, hex_text}, call_ends.specs.NumberLine.{number_line}}
-use Rattle.store_commands.specs.Common.{Begins, Seal, comment_line, ended_text}
+use Rattle.{call_ends.specs.NumberLine.{number_line}, store_commands.specs.Common.{Seal, comment_line, ended_text}}
 use Rattle.store_commands.specs.SealedText.{seal_comments, sealed_text}
 use Rattle.offset_rules.specs.Texts as rules
 
@@ -57,13 +56,18 @@ ended_parts comments settings offsets ends lines e =
 abbrev pub heading_of : Seal → List ℕ
 heading_of seal = ended_text (map comment_line (seal_comments seal)) ++ ended_text (settings_lines seal.params)
 
-pub text_parts : (seal : Seal)
+text_parts : (seal : Seal)
     → sealed_text seal
     ≡ heading_of seal ++ (offset_lines seal.params.offsets ++ ended_text (secured_line seal.params.secured ∷ []))
 text_parts seal =
     ended_parts (map comment_line (seal_comments seal)) (settings_lines seal.params)
     (map offset_line seal.params.offsets) (secured_line seal.params.secured ∷ []) (offset_lines seal.params.offsets)
     (pairs_lines seal.params.offsets)
+
+pub sealed_parts : (seal : Seal) {heading lines last : List ℕ} → heading ≡ heading_of seal
+    → lines ≡ offset_lines seal.params.offsets → last ≡ ended_text (secured_line seal.params.secured ∷ [])
+    → heading ++ (lines ++ last) ≡ sealed_text seal
+sealed_parts seal e f g = rw (e, f, g) (sym (text_parts seal))
 
 -- the comments are appended one after another
 pub comments_joined : (seal : Seal) (old l1 l2 l3 l4 l5 : List ℕ)
@@ -85,29 +89,3 @@ unfolding day_text
 secured_joined day l1 l2 l3 e1 e2 e3 =
     e3 ∙ ap (λ (x : List ℕ). x ++ codes "\n") (e2 ∙ ap (λ (x : List ℕ). x ++ day_text day) e1)
     ∙ ap (λ (x : List ℕ). codes "secured " ++ x) (sym (append-nil (day_text day ++ codes "\n")))
-
--- what was printed, by another name of it
-pub printed_as : (before now printed text : List ℕ) → printed ≡ text → now ≡ before ++ printed → now ≡ before ++ text
-printed_as before now printed text e h = h ∙ ap (λ (x : List ℕ). before ++ x) e
-
-module _ (old mid late new heading lines last text : List ℕ) (all : text ≡ heading ++ (lines ++ last)) where
-  -- a beginning of the first part, of the second behind the first, and of the third behind both
-  pub begun_first : Begins old new heading → Begins old new text
-  begun_first h = subst (λ (x : List ℕ). Begins old new x) (sym all) (begins_more old new heading (lines ++ last) h)
-
-  pub begun_second : mid ≡ old ++ heading → Begins mid new lines → Begins old new text
-  begun_second first h =
-      subst (λ (x : List ℕ). Begins old new x) (sym all)
-      (begins_after old mid new heading (lines ++ last) first (begins_more mid new lines last h))
-
-  pub begun_third : mid ≡ old ++ heading → late ≡ mid ++ lines → Begins late new last → Begins old new text
-  begun_third first second h =
-      subst (λ (x : List ℕ). Begins old new x) (sym all)
-      (begins_after old mid new heading (lines ++ last) first (begins_after mid late new lines last second h))
-
-  -- all of them
-  pub printed_whole : mid ≡ old ++ heading → late ≡ mid ++ lines → new ≡ late ++ last → new ≡ old ++ text
-  printed_whole first second third =
-      third ∙ ap (λ (x : List ℕ). x ++ last) second ∙ append_assoc mid lines last
-      ∙ ap (λ (x : List ℕ). x ++ (lines ++ last)) first ∙ append_assoc old heading (lines ++ last)
-      ∙ ap (λ (x : List ℕ). old ++ x) (sym all)

@@ -2,10 +2,10 @@
 use Rattle.std.{specs.Prelude.{◌==◌}, proofs.Common.{false, if◌then◌else◌, inl, inr, refl, subst, sym, true, ⊎_elim}}
 use Rattle.std.proofs.Common.{[], ℕ, ◌++◌, ◌∙◌, ◌≡◌, ◌≢◌, ◌⊎◌, Bool, Err, List, None, Ok, Option, Result, Some, ap}
 use Rattle.{sha2.specs.Sha256.{sha256}, seal_record.specs.Reading.{params_read}, call_ends.specs.Call.{LeavesUnread}}
-use Rattle.call_ends.{specs.Course.{NoMemory}, proofs.Laws.{as_found, not_status, same_fault}}
-use Rattle.store_commands.specs.Common.{Answer, Answered, Base, Begins, Ended, EndsByCourse, Opening, ReadFailed}
-use Rattle.store_commands.specs.Common.{Refusal, Seal, Sealing, StoreFault, Tree, found_number, next_number, old_seal}
-use Rattle.store_commands.specs.{Common.{sealed_line, status_of, tariff_in}, Seal.{where_decimals, with_params}}
+use Rattle.call_ends.{specs.Course.{NoMemory, ReadFailed}, proofs.Laws.{as_found, not_status, same_fault}}
+use Rattle.store_commands.specs.Common.{Answer, Answered, Base, Begins, Ended, EndsByCourse, Opening, Refusal, Seal}
+use Rattle.store_commands.specs.Common.{Sealing, StoreFault, Tree, found_number, next_number, old_seal, sealed_line}
+use Rattle.store_commands.specs.{Common.{status_of, tariff_in}, Seal.{where_decimals, with_params}}
 use Rattle.store_commands.{specs.Opening.{opening_in, store_ended}, proofs.EndsByStore.{course-refusal, none}}
 use Rattle.store_commands.specs.Seal.{HasDecimals, IsSealable, are_decimals, base_in, over_totals, seal_answer}
 use Rattle.store_commands.specs.Seal.{seal_command, seal_read, seal_with_tariff, sealing_of, sealing_over, sealing_with}

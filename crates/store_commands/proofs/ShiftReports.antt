@@ -1,67 +1,73 @@
 -- The report of a book beside a sealed store.
-use Rattle.std.proofs.Common.{ℕ, ◌++◌, ◌+◌, ◌∙◌, ◌≡◌, ◌≢◌, ◌≤◌, Err, List, Ok, Result, ap, arith, length, refl, subst}
-use Rattle.{std.proofs.Common.{sym}, call_ends.proofs.Laws.{course-lacking, course-unread, not_status}}
-use Rattle.{call_ends.specs.Pieces.{pieces_of}, store_commands.specs.Common.{book_read, shows}}
-use Rattle.store_commands.specs.Common.{Answer, Begins, BookFault, Durable, Ended, EndsByCourse, ReportFault, Seal}
-use Rattle.store_commands.{specs.Opening.{IsSealedIn, opening_in, store_of}, proofs.EndsByStore.{course-refusal}}
-use Rattle.store_commands.specs.Shifts.{ended_for_book, reported, shifts_answer, shifts_command}
-use Rattle.store_commands.specs.StoreEnds.{ended_for_report}
+use Rattle.std.proofs.Common.{[], ℕ, ◌∙◌, ◌≡◌, ◌≢◌, ◌⊎◌, Err, List, Ok, Result, ap, arith, inl, inr, refl, subst, sym}
+use Rattle.{std.proofs.Common.{true}, outside.specs.declared.files.Files.{Ghosts as FileGhosts}}
+use Rattle.{shift_book.specs.declared.book.BookFault.{BookFault}, call_ends.specs.declared.made.Made.{Made}}
+use Rattle.call_ends.specs.{Making.{IsMade, answer_with, is_plain}, Reads.{GoesTo, ReadsWord}}
+use Rattle.call_ends.proofs.Laws.{goes-none, goes-on, makes-known, makes-lacking, makes-stopped}
+use Rattle.store_commands.specs.Common.{Durable, Ended, Makes, Seal, book_read, end_made, status_of, text_made}
+use Rattle.store_commands.specs.{Opened.{also_told}, Shifts.{ended_for_book, reported, shifts_answer, shifts_command}}
+use Rattle.store_commands.{specs.Opening.{IsSealedIn, opening_in, store_of}, proofs.StoreTexts.{LooksAtSealed}}
 use Rattle.shift_book.specs.declared.book.BookFault.TheVariants as books
 use Rattle.call_ends.specs.declared.ending.Ended.TheVariants as ended
-use Rattle.store_commands.specs.declared.shifts.ReportFault.TheVariants as reports
 
-pub not_board-report : (fault : ReportFault) → ended_for_report fault ≢ ended.BoardFault
-not_board-report reports.ReadFault = λ e. absurd cc
-not_board-report (reports.Refused books.TooLong) = λ e. absurd cc
-not_board-report (reports.Refused (books.BadLine line)) = λ e. absurd cc
-not_board-report (reports.Refused books.NoMemory) = λ e. absurd cc
-not_board-report reports.NoMemory = λ e. absurd cc
+pub shifts_look : LooksAtSealed shifts_command (λ contents store. shifts_answer store (contents 1))
+shifts_look = record {
+  opens = tt;
+  unwritten = λ status none. none;
+  answers = λ contents image. refl;
+  refuses = λ contents why. refl;
+  untouched = λ contents. refl;
+  all = λ status zero. zero;
+  told = λ files_tell image_told told. told.1;
+}
 
-module _ (contents left : ℕ → List ℕ) (image : List ℕ) (read_failed : ℕ → Type 0) (failed told : Type 0)
-    (before now : List ℕ) (still : now ≡ before)
-    (store : Durable × Seal) (sealed : store_of (opening_in image) ≡ Ok store) where
-  abbrev Here : Ended → Type 0
-  Here end = EndsByCourse shifts_command contents left image read_failed failed (λ text. told → now ≡ before ++ text)
-      (λ text. told → Begins before now text) end
+-- what is made of a text that is no book, or for which there was no memory
+pub made_no_book : (decimals : ℕ) (now : Durable) (text : List ℕ) (fault : BookFault)
+    → (fault ≢ books.NoMemory → book_read now text ≡ Err fault)
+    → IsMade (reported decimals now (book_read now text)) (Err (ended_for_book fault))
+made_no_book decimals now text books.TooLong refused = inr (ap (reported decimals now) (refused (λ e. absurd cc)), refl)
+made_no_book decimals now text (books.BadLine line) refused =
+    inr (ap (reported decimals now) (refused (λ e. absurd cc)), refl)
+made_no_book decimals now text books.NoMemory refused = inl refl
 
-  sealed_in : IsSealedIn image
-  sealed_in = record { store = store; is = sealed }
+-- the book was read, or not, beside the store of an image, if it is told that it is that
+module _ {E T : Type 0} {F : FileGhosts E} {told : Type 0} {image : List ℕ} {store : Durable × Seal} {files files' : E}
+    {result : Result T Ended} (sealed : told → store_of (opening_in image) ≡ Ok store)
+    (read : ReadsWord (also_told F told) 1 files files' result) where
+  sealed_in : F.tells × told → IsSealedIn image
+  sealed_in t = record { store = store; is = sealed t.1 }
 
-  -- the text of the book is none
-  course-no_book : (fault : BookFault) → book_read store.0 (contents 1) ≡ Err fault → Here (ended_for_book fault)
-  course-no_book fault bad =
-      by fault (ap (λ o. shifts_answer o (contents 1)) sealed ∙ ap (reported store.1.decimals store.0) bad)
-    where
-      by : (fault : BookFault) → shifts_answer (store_of (opening_in image)) (contents 1)
-          ≡ reported store.1.decimals store.0 (Err fault) → Here (ended_for_book fault)
-      by books.TooLong e = course-refusal shifts_command contents left image read_failed failed told before now refl
-          still ended.LongBook e (not_status ended.LongBook 0 refl) (not_status ended.LongBook 3 refl)
-      by (books.BadLine line) e = course-refusal shifts_command contents left image read_failed failed told before now
-          refl still (ended.BadBook line) e (not_status (ended.BadBook line) 0 refl)
-          (not_status (ended.BadBook line) 3 refl)
-      by books.NoMemory e =
-          course-lacking shifts_command contents left image read_failed failed told before now refl still refl sealed_in
+  goes : result ≢ Err ended.ReadFault → GoesTo (also_told F told) shifts_command image (F.tells × told) 1 files files'
+  goes good = goes-on 1 [] (goes-none files) read (omega arith) refl (λ t. (refl, sealed_in t)) good
 
-  pub course-no_report : (fault : ReportFault) → (fault ≡ reports.ReadFault → read_failed 1)
-      → ((why : BookFault) → fault ≡ reports.Refused why → book_read store.0 (contents 1) ≡ Err why)
-      → Here (ended_for_report fault)
-  course-no_report reports.ReadFault cause refused =
-      course-unread shifts_command contents left image read_failed failed told before now refl still refl 1 refl
-      (refl, sealed_in) (cause refl)
-  course-no_report (reports.Refused why) cause refused = course-no_book why (refused why refl)
-  course-no_report reports.NoMemory cause refused =
-      course-lacking shifts_command contents left image read_failed failed told before now refl still refl sealed_in
+  -- it has an answer
+  pub book-known : (text : List ℕ) (end : Ended) → result ≢ Err ended.ReadFault → is_plain (status_of end) ≡ true
+      → (F.tells → reported store.1.decimals store.0 (book_read store.0 (F.rest files 1)) ≡ answer_with text end)
+      → (F.tells → (status_of end ≡ 0) ⊎ (status_of end ≡ 11) → F.rest files' 1 ≡ [])
+      → Makes (also_told F told) shifts_command image files files' text end
+  book-known text end good plain same whole = makes-known (λ status zero. inl zero) refl text end (goes good) plain
+      (λ t. ap (λ (o : Result (Durable × Seal) Ended). shifts_answer o (F.rest files 1)) (sealed t.1) ∙ same t.0)
+      (λ t final word reads. ap (F.rest files') reads ∙ whole t.0 final)
 
--- a report that is printed whole takes a step for each piece of it, and the opening of the store six
-pub shown-steps : (o : Result (Durable × Seal) Ended) (store : Durable × Seal) (book report text : List ℕ)
-    (before mid now : ℕ) → o ≡ Ok store
-    → reported store.1.decimals store.0 (book_read store.0 book) ≡ shows report → text ≡ report → mid ≤ before + 6
-    → now ≤ mid + pieces_of (length text) → now ≤ before + 6 + pieces_of (length (shifts_answer o book).shown)
-shown-steps o store book report text before mid now is e f first last =
-    let answer : shifts_answer o book ≡ shows report =
-    ap (λ (r : Result (Durable × Seal) Ended). shifts_answer r book) is ∙ e in
-    let same : length text ≡ length (shifts_answer o book).shown =
-    ap length (f ∙ sym (ap (λ (a : Answer). a.shown) answer)) in
-    let pieces : now ≤ mid + pieces_of (length (shifts_answer o book).shown) =
-    subst (λ (n : ℕ). now ≤ mid + pieces_of n) same last in
-    omega (arith, pieces, first)
+  -- there was no memory
+  pub book-lacking : result ≢ Err ended.ReadFault
+      → Makes (also_told F told) shifts_command image files files' [] ended.NoMemory
+  book-lacking good = makes-lacking [] (goes good) (λ t. refl) sealed_in
+
+  -- a read failed
+  pub book-unread : result ≡ Err ended.ReadFault
+      → Makes (also_told F told) shifts_command image files files' [] ended.ReadFault
+  book-unread failed = makes-stopped 1 [] (goes-none files) read failed (omega arith) refl (λ t. (refl, sealed_in t))
+      (λ t. refl) refl refl
+
+  -- this was made of its text
+  pub book-of : {text : List ℕ} (made : Result Made Ended) → result ≢ Err ended.ReadFault
+      → (F.tells → text ≡ F.rest files 1) → (F.tells → F.rest files' 1 ≡ [])
+      → IsMade (reported store.1.decimals store.0 (book_read store.0 text)) made
+      → Makes (also_told F told) shifts_command image files files' (text_made made) (end_made made)
+  book-of made good same whole (inl e) =
+      subst (λ (m : Result Made Ended). Makes (also_told F told) shifts_command image files files' (text_made m)
+      (end_made m)) (sym e) (book-lacking good)
+  book-of made good same whole (inr h) = book-known (text_made made) (end_made made) good h.1
+      (λ tells. ap (λ (x : List ℕ). reported store.1.decimals store.0 (book_read store.0 x)) (sym (same tells)) ∙ h.0)
+      (λ tells final. whole tells)

@@ -1,7 +1,7 @@
 -- Rules: the commands `mark on DRIVER` and `mark off`.
-use Rattle.{std.specs.Prelude.{[], Err, None, Ok, Option, Result, Some, false, true}, shift_book.specs.Marks.{Signing}}
-use Rattle.{shift_book.specs.Shares.{Driver}, store_commands.specs.Common.{store_command}}
-use Rattle.store_commands.specs.Common.{Answer, Command, Durable, Ended, Seal, mark_text, numbers_in, refused_as, shows}
+use Rattle.{std.specs.Prelude.{[], Err, None, Ok, Option, Result, Some, false, true}, shift_book.specs.Shares.{Driver}}
+use Rattle.{shift_book.specs.Marks.{Signing, mark_text}, store_commands.specs.Common.{store_command}}
+use Rattle.store_commands.specs.Common.{Answer, Command, Durable, Ended, Seal, numbers_in, refused_as, shows}
 use Rattle.store_commands.specs.Opening.{opening_in, store_of}
 
 -- the mark of a state of the store signs a driver on, or, without a driver, signs whoever is on off

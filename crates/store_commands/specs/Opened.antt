@@ -1,9 +1,9 @@
 -- For proofs: what an opening of the store leaves. Opening says what an image stands for.
 use Rattle.std.specs.Prelude.{ℕ, ◌≡◌, ◌⊎◌}
-use Rattle.{slot_store.specs.Scan.{IsValidFinding}, call_ends.specs.declared.ending.Ended.TheVariants.{NotSealed}}
+use Rattle.{outside.specs.declared.files.Files.{Ghosts as FileGhosts}, slot_store.specs.Scan.{IsValidFinding}}
+use Rattle.{call_ends.specs.declared.ending.Ended.TheVariants.{NotSealed}, store_commands.specs.Opening.{store_ended}}
 use Rattle.store_commands.specs.Common.{Durable, Ended, Ghosts, IsAsFound, IsAsHeld, IsAtRest, IsDurable, IsSeal}
 use Rattle.store_commands.specs.Common.{LeavesFromSync, Opening, Place, ReadsOnly, Rose, StoreFault}
-use Rattle.store_commands.specs.Opening.{store_ended}
 use Rattle.totals_record.specs.Reading as totals
 use Rattle.meter_store.specs.Stored as states
 use Rattle.seal_record.specs.Decoding as seals
@@ -16,6 +16,10 @@ pub record IsOpeningInRange (opening : Opening) : Type 0 where
 -- a command is barred by the store if it ended by a fault of the store, or because the store isn't sealed
 abbrev pub IsBarred : Ended → Type 0
 IsBarred ended = (ended ≡ NotSealed) ⊎ ((fault : StoreFault) × (ended ≡ store_ended fault))
+
+-- files tell what they hold only if something else is told, too
+abbrev pub also_told : {E : Type 0} → FileGhosts E → (told : Type 0) → FileGhosts E
+also_told F told = record { tells = F.tells × told; rest = F.rest; faults = F.faults }
 
 module _ {D L : Type 0} {N : ℕ} (B : Ghosts D N L) where
   -- a board is opened if nothing of either pair is in flight, and both pairs are as they were found

@@ -1,8 +1,8 @@
 -- Rules: the command `shifts BOOK`.
 use Rattle.std.specs.Prelude.{[], ℕ, ◌*◌, ◌+◌, ◌≡◌, ◌≤◌, Err, List, None, Ok, Result, length}
-use Rattle.{shift_book.specs.{Marks.{Signing}, Report.{report_text}}, call_ends.specs.Pieces.{pieces_of}}
-use Rattle.store_commands.specs.Common.{Answer, BookFault, Command, Durable, Ended, Seal, book_read, numbers_in}
-use Rattle.store_commands.specs.{Common.{refused_as, shows}, Opening.{IsSealedIn, opening_in, store_of}}
+use Rattle.shift_book.specs.{Marks.{Signing}, Report.{report_text}, declared.book.BookFault.{BookFault}}
+use Rattle.{call_ends.specs.Pieces.{pieces_of}, store_commands.specs.Opening.{IsSealedIn, opening_in, store_of}}
+use Rattle.store_commands.specs.Common.{Answer, Command, Durable, Ended, Seal, book_read, numbers_in, refused_as, shows}
 use Rattle.shift_book.specs.declared.book.BookFault.TheVariants as books
 use Rattle.call_ends.specs.declared.ending.Ended.TheVariants as ended
 

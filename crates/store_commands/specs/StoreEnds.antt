@@ -1,12 +1,11 @@
--- For proofs: how a command ends by requests, parameters, rules or books that it couldn't read.
+-- For proofs: how a command ends by requests, parameters or rules that it couldn't read.
 use Rattle.{std.specs.Prelude.{Err, Ok, Result}, data_port.specs.declared.serving.PortFault.{PortFault}}
 use Rattle.call_ends.specs.declared.ending.Ended.TheVariants.{BadFrame, BadRules, BoardFault, Done, EndlessRequests}
 use Rattle.call_ends.specs.declared.ending.Ended.TheVariants.{NoMemory}
-use Rattle.store_commands.specs.{Common.{BadParams, Ended, ReadFault, ReportFault, RulesFault}, Shifts.{ended_for_book}}
+use Rattle.store_commands.specs.Common.{BadParams, Ended, ReadFault, RulesFault}
 use Rattle.store_commands.specs.declared.params.ParamsFault.{ParamsFault}
 use Rattle.store_commands.specs.declared.offsets.RulesFault.TheVariants as rules
 use Rattle.store_commands.specs.declared.params.ParamsFault.TheVariants as params
-use Rattle.store_commands.specs.declared.shifts.ReportFault.TheVariants as reports
 use Rattle.data_port.specs.declared.serving.PortFault.TheVariants as ports
 
 -- how a command ended that served its requests
@@ -27,9 +26,3 @@ ended_for_params params.NoMemory = NoMemory
 abbrev pub ended_for_rules : RulesFault → Ended
 ended_for_rules rules.ReadFault = ReadFault
 ended_for_rules (rules.Refused why) = BadRules why
-
--- how a command ended that has no report of shifts
-abbrev pub ended_for_report : ReportFault → Ended
-ended_for_report reports.ReadFault = ReadFault
-ended_for_report (reports.Refused fault) = ended_for_book fault
-ended_for_report reports.NoMemory = NoMemory

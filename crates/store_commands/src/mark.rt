@@ -1,12 +1,12 @@
 //! The commands `mark on DRIVER` and `mark off`.
 ghost use Rattle.std.specs.Prelude.{ℕ, ◌<◌, ◌≡◌, ◌≤◌, List, length};
-ghost use Rattle.store_commands.specs.Common.{Carries, line_size, mark_text, no_files, numbers_in};
-ghost use Rattle.store_commands.specs.Mark.{mark_command};
+ghost use Rattle.shift_book.specs.Marks.{mark_text};
+ghost use Rattle.store_commands.specs.{Common.{Carries, line_size, no_files, numbers_in}, Mark.{mark_command}};
 ghost use Rattle.store_commands.specs.Mark as spec;
 
 use crate::sealed::open_sealed;
 use arrayvec::ArrayVec;
-use call_ends::Ended;
+use call_ends::{Ended, ended_behind};
 use outside::{Board, STORE_SIZE};
 use shift_book::{Mark, put_mark};
 use std::sync::ledger::Ledger;
@@ -28,10 +28,7 @@ pub fn print_mark<B: Board<STORE_SIZE, L>, L: Ledger>(
         Err(why) => return why,
     };
     let line = mark_line(driver, &store.0);
-    match board.print(line.as_slice(), steps) {
-        Ok(()) => Ended::Done,
-        Err(_) => Ended::BoardFault,
-    }
+    ended_behind(board.print(line.as_slice(), steps), Ended::Done)
 }
 
 /// The line of a mark.

@@ -2,12 +2,13 @@
 #![tactic(auto, using(call_ends::proofs::Laws::board_runs))]
 
 ghost use Rattle.std.specs.Prelude.{[], ℕ, ◌++◌, ◌+◌, ◌<◌, ◌≡◌, ◌≢◌, ◌≤◌, Err, IfOk, OnOk, length};
-ghost use Rattle.offset_rules.specs.{Reading.{rules_read}, Texts.{offset_line, offset_lines}};
-ghost use Rattle.store_commands.specs.Common.{Begins, Carries, HasCause, KeepsStore, LeavesOthers, Rose, line_size};
-ghost use Rattle.store_commands.specs.{Offsets.{offsets_command}, StoreEnds.{ended_for_rules}};
+ghost use Rattle.{outside.specs.Faults.{HasCause}, offset_rules.specs.Texts.{offset_line, offset_lines}};
+ghost use Rattle.{offset_rules.specs.Reading.{rules_read}, store_commands.specs.StoreEnds.{ended_for_rules}};
+ghost use Rattle.store_commands.specs.Common.{Begins, Carries, KeepsStore, LeavesOthers, Rose, line_size};
+ghost use Rattle.store_commands.specs.Offsets.{offsets_command};
 
 use crate::years::Years;
-use call_ends::Ended;
+use call_ends::{Ended, ended_behind};
 use offset_rules::{RuleFault, Rules, put_offset, read_rules};
 use outside::{Failed, Files, Printer, RoomFault, STORE_SIZE, read_whole};
 use std::sync::ledger::Ledger;
@@ -41,10 +42,7 @@ pub fn print_offsets<F: Files, B: Printer<STORE_SIZE, L>, L: Ledger>(
     };
     let (first, last) = years.bounds();
     let pairs = rules.pairs(first, last);
-    match print_pairs(pairs.as_slice(), board, steps) {
-        Ok(()) => Ended::Done,
-        Err(_) => Ended::BoardFault,
-    }
+    ended_behind(print_pairs(pairs.as_slice(), board, steps), Ended::Done)
 }
 
 /// How a command ended that couldn't read its rules.

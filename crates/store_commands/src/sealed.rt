@@ -1,8 +1,8 @@
 //! Opens the store of a command that needs a sealed one.
 ghost use Rattle.std.specs.Prelude.{◌+◌, ◌≡◌, ◌≢◌, ◌≤◌, IfErr, IfOk, IsErrOf};
-ghost use Rattle.call_ends.specs.Ending.{HasCauseOn, LeavesStoreUnwritten};
-ghost use Rattle.store_commands.specs.Common.{IsDurable, IsSeal};
-ghost use Rattle.store_commands.specs.{Opened.{IsBarred, IsOpenedWith, OnlyOpens}, Opening.{opening_in, store_of}};
+ghost use Rattle.{call_ends.specs.Ending.{HasCauseOn}, store_commands.specs.Opened.{IsBarred, IsOpenedWith, OnlyOpens}};
+ghost use Rattle.store_commands.specs.Common.{IsDurable, IsSeal, LeavesStoreUnwritten};
+ghost use Rattle.store_commands.specs.Opening.{opening_in, store_of};
 
 use crate::opening::{open_store, refused_store, sealed_store};
 use call_ends::Ended;

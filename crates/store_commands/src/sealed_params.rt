@@ -1,14 +1,13 @@
 //! The command `sealed`.
 #![tactic(auto, using(call_ends::proofs::Laws::board_runs))]
 
-ghost use Rattle.std.specs.Prelude.{ℕ, ◌++◌, ◌+◌, ◌≡◌, ◌≤◌, List, OnOk};
-ghost use Rattle.store_commands.specs.Common.{Begins, Carries, HasCause, IsSeal, KeepsStore, no_files};
+ghost use Rattle.{std.specs.Prelude.{ℕ, List}, store_commands.specs.Common.{Carries, IsSeal, PrintsOut, no_files}};
 ghost use Rattle.store_commands.specs.{Sealed.{sealed_command}, SealedText.{sealed_text}};
 
 use crate::offsets::print_pairs;
 use crate::sealed::open_sealed;
 use crate::sealed_text::{sealed_heading, secured_line};
-use call_ends::Ended;
+use call_ends::{Ended, ended_behind};
 use outside::{Board, Failed, Printer, STORE_SIZE};
 use seal_record::Seal;
 use std::sync::ledger::Ledger;
@@ -26,10 +25,7 @@ pub fn print_sealed<B: Board<STORE_SIZE, L>, L: Ledger>(
         Ok(store) => store,
         Err(why) => return why,
     };
-    match print_seal(&store.1, board, steps) {
-        Ok(()) => Ended::Done,
-        Err(_) => Ended::BoardFault,
-    }
+    ended_behind(print_seal(&store.1, board, steps), Ended::Done)
 }
 
 /// Prints a seal: the comments and the settings, a line for each pair of the offsets, and the date of securing.
@@ -39,13 +35,7 @@ fn print_seal<B: Printer<STORE_SIZE, L>, L: Ledger>(
     steps: &mut Steps<L>,
 ) -> Result<(), Failed>
     requires { IsSeal seal.now }
-    ensures whole { B.tells_text
-        → OnOk result (B.printed board.new ≡ B.printed board.old ++ sealed_text seal.now) }
-    ensures begun { B.tells_text
-        → Begins (B.printed board.old) (B.printed board.new) (sealed_text seal.now) }
-    ensures cause { HasCause (B.faults board.old) (B.faults board.new) result }
-    ensures steps { steps.new ≤ steps.old + 34 }
-    ensures store { KeepsStore B.Printer board.old board.new }
+    ensures { PrintsOut B.Printer (sealed_text seal.now) 34 board.old board.new steps.old steps.new result }
 {
     let heading = sealed_heading(seal);
     board.print(heading.as_slice(), steps)?;

@@ -1,27 +1,18 @@
 //! The command `shifts`.
-ghost use Rattle.std.specs.Prelude.{[], ℕ, ◌*◌, ◌+◌, ◌≡◌, ◌≢◌, ◌≤◌, Err, IfOk, OnOk, length, vec_len};
-ghost use Rattle.store_commands.specs.Common.{Carries, LeavesOthers, Rose, book_read, shows};
-ghost use Rattle.store_commands.specs.{Shifts.{ended_for_book, reported, shifts_command}, StoreEnds.{ended_for_report}};
+ghost use Rattle.std.specs.Prelude.{ℕ, ◌*◌, ◌+◌, ◌≡◌, ◌≤◌, List, Ok, length};
+ghost use Rattle.{call_ends.specs.Making.{IsMade}, store_commands.specs.Opening.{opening_in, store_of}};
+ghost use Rattle.store_commands.specs.{Common.{Carries, Makes, book_read, end_made, text_made}, Opened.{also_told}};
+ghost use Rattle.store_commands.specs.Shifts.{ended_for_book, reported, shifts_command};
 
 use crate::sealed::open_sealed;
-use call_ends::{Ended, print_text};
+use call_ends::{Ended, Made, print_made};
 use outside::{Board, Files, STORE_SIZE, TextFault, read_text};
+use seal_record::Seal;
 use shift_book::{BookFault, read_book, shifts};
 use std::alloc::Global;
 use std::sync::ledger::Ledger;
 use taxi_units::Steps;
 use totals_record::Durable;
-
-/// Why there is no report.
-#[derive(Clone, Copy)]
-pub enum ReportFault {
-    /// A read failed.
-    ReadFault,
-    /// The text is no book beside the store.
-    Refused(BookFault),
-    /// Memory ran out.
-    NoMemory,
-}
 
 /// How many bytes a book has at most.
 const MOST: usize = 1_048_576;
@@ -40,25 +31,8 @@ pub fn print_shifts<F: Files, B: Board<STORE_SIZE, L>, L: Ledger>(
         Ok(store) => store,
         Err(why) => return why,
     };
-    let report = match report_of_word(alloc, files, 1, &store.0, store.1.decimals) {
-        Ok(report) => report,
-        Err(fault) => return refused_report(fault),
-    };
-    match print_text(report.as_slice(), board, steps) {
-        Ok(()) => Ended::Done,
-        Err(_) => Ended::BoardFault,
-    }
-}
-
-/// How the command ended that has no report.
-fn refused_report(fault: ReportFault) -> Ended
-    ensures { result ≡ ended_for_report fault }
-{
-    match fault {
-        ReportFault::ReadFault => Ended::ReadFault,
-        ReportFault::Refused(fault) => refused_book(fault),
-        ReportFault::NoMemory => Ended::NoMemory,
-    }
+    let report = report_of_word(alloc, files, &store);
+    print_made(report, board, steps)
 }
 
 /// How the command ended by the fault of its book.
@@ -72,58 +46,40 @@ fn refused_book(fault: BookFault) -> Ended
     }
 }
 
-/// Reads the book of a word beside a state of the store, and makes its report. It reads the file to its end if it is a
-/// book.
+/// Reads the book of word 1 beside what a store holds, and makes its report.
 fn report_of_word<F: Files>(
     alloc: Global,
     files: &mut F,
-    word: usize,
-    now: &Durable,
-    decimals: u8,
-) -> Result<Vec<u8>, ReportFault>
-    requires { decimals ≤ 3 }
-    ensures report { F.tells → IfOk result (λ report.
-        reported decimals now.now (book_read now.now (F.rest files.old word)) ≡ shows report.items) }
-    ensures short { F.tells → IfOk result (λ report. vec_len report ≤ 1024 * (length (F.rest files.old word) + 1)) }
-    ensures ended { F.tells → OnOk result (F.rest files.new word ≡ []) }
-    ensures refused { (fault : BookFault) → F.tells → result ≡ Err (ReportFault.Refused fault)
-        → book_read now.now (F.rest files.old word) ≡ Err fault }
-    ensures read_fault { result ≡ Err ReportFault.ReadFault
-        → Rose (F.faults files.old word) (F.faults files.new word) }
-    ensures others { LeavesOthers F.rest word files.old files.new }
-    ensures counts { result ≢ Err ReportFault.ReadFault
-        → (other : ℕ) → F.faults files.new other ≡ F.faults files.old other }
+    store: &(Durable, Seal),
+) -> Result<Made, Ended>
+    requires { store.now.1.decimals ≤ 3 }
+    ensures makes { (image : List ℕ) → Makes (also_told F.Files (store_of (opening_in image) ≡ Ok store.now))
+        shifts_command image files.old files.new (text_made result) (end_made result) }
+    ensures short { F.tells → length (text_made result) ≤ 1024 * (length (F.rest files.old 1) + 1) }
 {
-    match read_text(alloc, files, word, MOST) {
-        Ok(text) => report_of_text(alloc, text.as_slice(), now, decimals),
-        Err(TextFault::TooLong) => Err(ReportFault::Refused(BookFault::TooLong)),
-        Err(TextFault::DeviceFailed) => Err(ReportFault::ReadFault),
-        Err(TextFault::NoMemory) => Err(ReportFault::NoMemory),
+    match read_text(alloc, files, 1, MOST) {
+        Ok(text) => report_of_text(alloc, text.as_slice(), store),
+        Err(TextFault::TooLong) => Err(Ended::LongBook),
+        Err(TextFault::DeviceFailed) => Err(Ended::ReadFault),
+        Err(TextFault::NoMemory) => Err(Ended::NoMemory),
     }
 }
 
-/// The report of the book of a text beside a state of the store.
-fn report_of_text(
-    alloc: Global,
-    text: &[u8],
-    now: &Durable,
-    decimals: u8,
-) -> Result<Vec<u8>, ReportFault>
-    requires { decimals ≤ 3 }
-    ensures report { IfOk result (λ report. reported decimals now.now (book_read now.now text.now)
-        ≡ shows report.items) }
-    ensures short { IfOk result (λ report. vec_len report ≤ 1024 * (length text.now + 1)) }
-    ensures refused { (fault : BookFault) → result ≡ Err (ReportFault.Refused fault)
-        → book_read now.now text.now ≡ Err fault }
-    ensures read { result ≢ Err ReportFault.ReadFault }
+/// The report of the book of a text beside what a store holds.
+fn report_of_text(alloc: Global, text: &[u8], store: &(Durable, Seal)) -> Result<Made, Ended>
+    requires { store.now.1.decimals ≤ 3 }
+    ensures made { IsMade (reported store.now.1.decimals store.now.0 (book_read store.now.0 text.now)) result }
+    ensures short { length (text_made result) ≤ 1024 * (length text.now + 1) }
 {
-    let marks = match read_book(alloc, text, now) {
+    let marks = match read_book(alloc, text, &store.0) {
         Ok(marks) => marks,
-        Err(BookFault::NoMemory) => return Err(ReportFault::NoMemory),
-        Err(fault) => return Err(ReportFault::Refused(fault)),
+        Err(fault) => return Err(refused_book(fault)),
     };
-    match shifts(alloc, marks.as_slice(), now, decimals) {
-        Ok(report) => Ok(report),
-        Err(_) => Err(ReportFault::NoMemory),
+    match shifts(alloc, marks.as_slice(), &store.0, store.1.decimals) {
+        Ok(text) => Ok(Made {
+            text,
+            ended: Ended::Done,
+        }),
+        Err(_) => Err(Ended::NoMemory),
     }
 }

@@ -2,12 +2,13 @@
 #![tactic(auto, using(call_ends::proofs::Laws::board_runs))]
 
 ghost use Rattle.std.specs.Prelude.{ℕ, ◌++◌, ◌+◌, ◌<◌, ◌≡◌, ◌≤◌, List, OnOk};
-ghost use Rattle.store_commands.specs.Common.{Begins, Carries, HasCause, KeepsStore, no_files};
-ghost use Rattle.store_commands.specs.{Totals.{totals_command}, TotalsText.{position_at, totals_text}};
+ghost use Rattle.{outside.specs.Faults.{HasCause}, store_commands.specs.TotalsText.{position_at, totals_text}};
+ghost use Rattle.store_commands.specs.Common.{Begins, Carries, KeepsStore, PrintsOut, no_files};
+ghost use Rattle.store_commands.specs.Totals.{totals_command};
 
 use crate::sealed::open_sealed;
 use crate::totals_text::{heading, position_line};
-use call_ends::Ended;
+use call_ends::{Ended, ended_behind};
 use outside::{Board, Failed, Printer, STORE_SIZE};
 use std::sync::ledger::Ledger;
 use taxi_units::Steps;
@@ -22,10 +23,8 @@ pub fn print_store<B: Board<STORE_SIZE, L>, L: Ledger>(board: &mut B, steps: &mu
         Ok(store) => store,
         Err(why) => return why,
     };
-    match print_totals(&store.0, store.1.decimals, board, steps) {
-        Ok(()) => Ended::Done,
-        Err(_) => Ended::BoardFault,
-    }
+    let printed = print_totals(&store.0, store.1.decimals, board, steps);
+    ended_behind(printed, Ended::Done)
 }
 
 /// Prints totals, with the lines of the tariff positions at the end.
@@ -36,13 +35,7 @@ fn print_totals<B: Printer<STORE_SIZE, L>, L: Ledger>(
     steps: &mut Steps<L>,
 ) -> Result<(), Failed>
     requires { decimals ≤ 3 }
-    ensures whole { B.tells_text
-        → OnOk result (B.printed board.new ≡ B.printed board.old ++ totals_text decimals durable.now) }
-    ensures begun { B.tells_text
-        → Begins (B.printed board.old) (B.printed board.new) (totals_text decimals durable.now) }
-    ensures cause { HasCause (B.faults board.old) (B.faults board.new) result }
-    ensures steps { steps.new ≤ steps.old + 10 }
-    ensures store { KeepsStore B.Printer board.old board.new }
+    ensures { PrintsOut B.Printer (totals_text decimals durable.now) 10 board.old board.new steps.old steps.new result }
 {
     let line = heading(durable, decimals);
     board.print(line.as_slice(), steps)?;

@@ -1,32 +1,22 @@
-use Rattle.std.proofs.Common.{[], ℕ, ◌∙◌, List, Result, ap, arith, refl, rules, subst, sym}
+use Rattle.std.proofs.Common.{[], ℕ, ◌∙◌, List, ap, arith, refl, subst, sym}
 use Rattle.{data_port.specs.ServedStream.{Serves}, call_ends.proofs.Laws.{as_found, carries-looked, no_fault}}
 use Rattle.{call_ends.specs.Ending.{EndsOnDevices}, store_commands.proofs.ReadOnlyCalls.{unwritten-behind}}
-use Rattle.store_commands.specs.{Common.{Durable, Ended, Seal}, Port.{port_answer, port_command}}
-use Rattle.store_commands.{specs.StoreEnds.{ended_serving}, proofs.StoreTexts.{ends-barred}}
-use Rattle.store_commands.proofs.PortReplies.{board_fault-served, course-served, read_fault-served}
+use Rattle.store_commands.specs.Common.{Ended}
+use Rattle.store_commands.{specs.{Port.{port_command}, StoreEnds.{ended_serving}}, proofs.StoreTexts.{carries-barred}}
+use Rattle.store_commands.proofs.PortReplies.{board_fault-served, course-served, ports_look, read_fault-served}
 use Rattle.call_ends.specs.declared.ending.Ended.TheVariants as ended
 use Rattle.store_commands.proofs.port.serve_requests.Goals as goal
 
 -- there is no sealed store
 pub returns-in-Err : goal.returns-in-Err
-returns-in-Err g c =
-    carries-looked g.F.Files g.B.Printer port_command c.args.files.now c.args.files.now c.args.board.now
-    c.open_sealed.new.board c.args.steps.now c.open_sealed.new.steps c.in-Err.why tt (λ status w. w)
-    (λ known.
-    let rest = g.F.Files.rest c.args.files.now in
-    ends-barred g.B.Printer port_command rest rest _ c.args.board.now c.open_sealed.new.board
-    (λ (r : Result (Durable × Seal) Ended). port_answer r (rest 1)) refl (record { bytes = refl })
-    c.open_sealed.result (c.open_sealed.ensures.exact known.1) c.open_sealed.ensures.opens (λ e. absurd cc)
-    (λ e. absurd cc) c.in-Err.why c.in-Err.is c.in-Err.ensures.barred refl)
+returns-in-Err g c = let o = c.open_sealed.ensures in let e = c.in-Err.ensures in
+    carries-barred g.F.Files g.B.Printer ports_look c.args.files.now o.exact o.opens c.in-Err.is e.barred e.not_read
+    e.cause e.looks
     (λ later le tells. record {
       taken = [];
       split = record { bytes = refl };
-      bound = omega
-          (arith, le, c.open_sealed.ensures.steps);
+      bound = omega (arith, le, o.steps);
     })
-    (λ e. absurd (c.in-Err.ensures.not_read e)) (search rules) (λ word not. refl) (λ known word never. refl)
-    (λ read good word. refl)
-    (search rules)
 
 -- the requests are served
 pub returns : goal.returns

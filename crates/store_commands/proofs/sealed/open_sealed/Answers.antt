@@ -1,8 +1,8 @@
 use Rattle.std.proofs.Common.{◌∙◌, ◌≡◌, Err, None, Some, ap, inl, inr, refl, subst, sym}
 use Rattle.call_ends.proofs.Laws.{ends_apart, no_fault, same_fault}
-use Rattle.store_commands.specs.Common.{Durable, Found, IsAsFound}
-use Rattle.store_commands.{specs.Opening.{store_ended, store_of}, proofs.BarredEnds.{board_fault-store, not_read-store}}
-use Rattle.store_commands.proofs.{Openings.{opens-as, sealed_found, store_opened}, ReadOnlyCalls.{unwritten-opened}}
+use Rattle.store_commands.specs.{Common.{Durable, Found, IsAsFound}, Opening.{store_ended, store_of}}
+use Rattle.store_commands.proofs.{BarredEnds.{board_fault-store, not_read-store}, ReadOnlyCalls.{unwritten-opened}}
+use Rattle.store_commands.proofs.Openings.{opens-as, opens-by, sealed_found, store_opened}
 use Rattle.totals_record.specs.Reading as totals
 use Rattle.meter_store.specs.Stored as states
 use Rattle.call_ends.specs.declared.ending.Ended.TheVariants as ended
@@ -39,14 +39,7 @@ returns-in-Err-clause-looks g c =
     (c.open_store.result ≡ Err stores.BoardFault) c.refused_store.result c.args.board.now c.open_store.new.board
     (λ f. c.refused_store.ensures
     ∙ ap store_ended (same_fault c.open_store.result c.in-Err.fault stores.BoardFault c.in-Err.is f))
-    (record {
-      reads = h.reads;
-      synced = h.synced;
-      settled = h.settled;
-      same = h.same;
-      count = h.count;
-      cause = h.cause;
-    })
+    (opens-by h.reads h.synced h.settled h.same h.count h.cause)
 
 pub returns-in-Err-clause-opens : goal.returns-in-Err-clause-opens
 returns-in-Err-clause-opens g c =
@@ -56,14 +49,7 @@ returns-in-Err-clause-opens g c =
     ∙ ap store_ended (same_fault c.open_store.result c.in-Err.fault stores.BoardFault c.in-Err.is f)))
     (λ e. c.in-Err.is
     ∙ ap Err (board_fault-store c.in-Err.fault (sym c.refused_store.ensures ∙ same_fault _ _ _ refl e)))
-    (record {
-      reads = h.reads;
-      synced = h.synced;
-      settled = h.settled;
-      same = h.same;
-      count = h.count;
-      cause = h.cause;
-    })
+    (opens-by h.reads h.synced h.settled h.same h.count h.cause)
 
 -- ---- it is sealed
 
@@ -90,14 +76,7 @@ returns-in-Some-clause-opens g c =
     opens-as g.B.Printer _ _ c.args.board.now c.open_store.new.board
     (λ f. absurd (no_fault c.open_store.result c.in-Ok.opening stores.BoardFault c.in-Ok.is f))
     (λ e. absurd (no_fault _ _ _ refl e))
-    (record {
-      reads = h.reads;
-      synced = h.synced;
-      settled = h.settled;
-      same = h.same;
-      count = h.count;
-      cause = h.cause;
-    })
+    (opens-by h.reads h.synced h.settled h.same h.count h.cause)
 
 -- ---- it isn't sealed
 
@@ -124,14 +103,7 @@ returns-in-None-clause-looks g c =
     unwritten-opened g.B.Printer
     (c.open_store.result ≡ Err stores.BoardFault) ended.NotSealed c.args.board.now c.open_store.new.board
     (λ f. absurd (no_fault c.open_store.result c.in-Ok.opening stores.BoardFault c.in-Ok.is f))
-    (record {
-      reads = h.reads;
-      synced = h.synced;
-      settled = h.settled;
-      same = h.same;
-      count = h.count;
-      cause = h.cause;
-    })
+    (opens-by h.reads h.synced h.settled h.same h.count h.cause)
 
 pub returns-in-None-clause-opens : goal.returns-in-None-clause-opens
 returns-in-None-clause-opens g c =
@@ -139,11 +111,4 @@ returns-in-None-clause-opens g c =
     opens-as g.B.Printer _ _ c.args.board.now c.open_store.new.board
     (λ f. absurd (no_fault c.open_store.result c.in-Ok.opening stores.BoardFault c.in-Ok.is f))
     (λ e. absurd (ends_apart ended.NotSealed ended.BoardFault refl (same_fault _ _ _ refl e)))
-    (record {
-      reads = h.reads;
-      synced = h.synced;
-      settled = h.settled;
-      same = h.same;
-      count = h.count;
-      cause = h.cause;
-    })
+    (opens-by h.reads h.synced h.settled h.same h.count h.cause)
