@@ -7,7 +7,7 @@ from typing import NamedTuple
 from matplotlib.ticker import MaxNLocator
 
 from heglorwy.drives import SECOND
-from heglorwy.meter import LAST, hirings_of, meter_of, tenths
+from heglorwy.meter import LAST, asked_of, hirings_of, meter_of, tenths
 from heglorwy.picture.style import axes_in, new_figure, patch, svg_of, write_at
 from heglorwy.picture.week import draw_legend, rows_of_legend
 from heglorwy.program import Differs, Refused, Scratch, read
@@ -98,12 +98,7 @@ def text_of(lines):
 def printed_by_run(asked, drive):
     """What `run` prints of a drive on a new store with the tariff and the parameters."""
     with Scratch("taxi") as taxi:
-        meter_of(taxi, asked)
-        printed, status = taxi.call("run", "tariff", "drive", drive=drive)
-    lines = printed.decode().splitlines()
-    if status:
-        raise Refused(2 if status == 3 else status, f"run ends with {status}: {lines[-1] if lines else ''}")
-    return lines
+        return asked_of(taxi, meter_of(taxi, asked), "run", drive)
 
 
 def displays_of(parted, asked, text):
