@@ -71,10 +71,6 @@ class Run:
         return done.stdout or b"", (done.stderr or b"").decode(), done.returncode
 
 
-def nothing(run):
-    pass
-
-
 def other_opening(run):
     run.put("params", PARAMS.read_text().replace("HG-0815", "HG-0816"))
     (run.top / "other").mkdir()
@@ -121,7 +117,7 @@ REFUSED = [
     ("an empty drive", lambda run: run.put("a drive", ""), {}, 1, "no beginning of the drive leaves what the store has"),
     ("a bad line", lambda run: run.put("a drive", TWO + "X\n"), {}, 1, "ends with status 3 BAD DRIVE 18"),
     ("a torn drive", lambda run: run.put("a drive", TWO[:-1]), {}, 1, "ends with status 3 BAD DRIVE 17"),
-    ("another tariff", nothing, {"tariff": SIMPLE}, 1, "ends with status 6 WRONG TARIFF"),
+    ("another tariff", lambda run: None, {"tariff": SIMPLE}, 1, "ends with status 6 WRONG TARIFF"),
     ("no tariff", lambda run: run.put("none", ""), {"tariff": "none"}, 1, "ends with status 6 WRONG TARIFF"),
     ("an empty opening store", lambda run: run.put("an opening", b""), {}, 1, "the opening store is none"),
     ("a torn opening store", lambda run: run.put("an opening", run.store()[:700]), {}, 1, "the opening store is none"),
@@ -141,13 +137,13 @@ REFUSED = [
     ("a roll with what was said", lambda run: run.put("a roll", run.content("a roll") + b"taxi: status 8\n"), {}, 1,
      "no beginning of what the drive prints"),
     ("a roll that goes on, without BYTES", goes_on, {}, 1, "no beginning of what the drive prints"),
-    ("a roll that is shorter than BYTES", nothing, {"more": ["--behind", "9999"]}, 1, "is to have had 9999"),
-    ("BYTES below zero", nothing, {"more": ["--behind", "-5"]}, 2, "BYTES"),
-    ("BYTES that are none", nothing, {"more": ["--behind", "5k"]}, 2, "BYTES"),
+    ("a roll that is shorter than BYTES", lambda run: None, {"more": ["--behind", "9999"]}, 1, "is to have had 9999"),
+    ("BYTES below zero", lambda run: None, {"more": ["--behind", "-5"]}, 2, "BYTES"),
+    ("BYTES that are none", lambda run: None, {"more": ["--behind", "5k"]}, 2, "BYTES"),
     ("no opening store", lambda run: os.remove(run.path("an opening")), {}, 7, "an opening: No such file"),
-    ("no drive", nothing, {"drive": "none"}, 7, "none: No such file"),
-    ("no roll", nothing, {"roll": "none"}, 7, "none: No such file"),
-    ("no folder", nothing, {"folder": "none"}, 7, "taxi.store: No such file"),
+    ("no drive", lambda run: None, {"drive": "none"}, 7, "none: No such file"),
+    ("no roll", lambda run: None, {"roll": "none"}, 7, "none: No such file"),
+    ("no folder", lambda run: None, {"folder": "none"}, 7, "taxi.store: No such file"),
     ("a drive for another NUMBER", lambda run: run.put("a drive", "# LEFT FOR NUMBER 7\n" + TWO), {}, 1, "left for NUMBER 7"),
 ]
 
