@@ -7,7 +7,7 @@ ghost use Rattle.call_ends.specs.{Common.{KeepsStore, Rose}, Ending.{ended_for},
 use crate::last_line::last_line;
 use crate::tariff::{Refusal, TextFault};
 use offset_rules::RuleFault;
-use outside::{Board, STORE_SIZE};
+use outside::{Printer, STORE_SIZE};
 use seal_record::ParamFault;
 use std::sync::ledger::Ledger;
 use taxi_units::Steps;
@@ -134,7 +134,7 @@ fn status(ended: Ended) -> u8
 
 /// Prints the last line of an end, and gives its status: 8 if the board fails.
 #[tactic(auto, using(crate::proofs::BoardRuns::board_runs))]
-pub fn finish<B: Board<STORE_SIZE, L>, L: Ledger>(
+pub fn finish<B: Printer<STORE_SIZE, L>, L: Ledger>(
     ended: Ended,
     board: &mut B,
     steps: &mut Steps<L>,
@@ -143,8 +143,8 @@ pub fn finish<B: Board<STORE_SIZE, L>, L: Ledger>(
         result (B.printed board.old) (B.printed board.new) }
     ensures count { RisesOnlyIf (result ≢ status_of ended) (B.faults board.old) (B.faults board.new) }
     ensures steps { steps.new ≤ steps.old + 1 }
-    ensures store { KeepsStore B.Board board.old board.new }
-    ensures leaves { LeavesOnly B.Board board.old board.new
+    ensures store { KeepsStore B.Printer board.old board.new }
+    ensures leaves { LeavesOnly B.Printer board.old board.new
         (MayLeaveAmid (B.image board.old) (B.in_flight board.old) (B.printed board.old) (line_of ended)) }
     ensures silent { line_of ended ≡ [] → board.new ≡ board.old }
 {

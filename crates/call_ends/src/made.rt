@@ -4,7 +4,7 @@ ghost use Rattle.call_ends.specs.{Making.{Prints, end_made, end_printed, text_ma
 
 use crate::ending::Ended;
 use crate::pieces::print_text;
-use outside::{Board, Failed, STORE_SIZE};
+use outside::{Failed, Printer, STORE_SIZE};
 use std::sync::ledger::Ledger;
 use taxi_units::Steps;
 
@@ -26,12 +26,12 @@ pub fn ended_behind(printed: Result<(), Failed>, ended: Ended) -> Ended
 }
 
 /// Prints what a command has made, and gives how it ended. It prints nothing if nothing was made.
-pub fn print_made<B: Board<STORE_SIZE, L>, L: Ledger>(
+pub fn print_made<B: Printer<STORE_SIZE, L>, L: Ledger>(
     made: Result<Made, Ended>,
     board: &mut B,
     steps: &mut Steps<L>,
 ) -> Ended
-    ensures { end_made made ≢ Ended.BoardFault → Prints B.Board (text_made made) (pieces_of (length (text_made made)))
+    ensures { end_made made ≢ Ended.BoardFault → Prints B.Printer (text_made made) (pieces_of (length (text_made made)))
         (end_made made) board.old board.new steps.old steps.new result }
 {
     let made = match made {

@@ -2,7 +2,7 @@
 ghost use Rattle.std.specs.Prelude.{◌++◌, ◌+◌, ◌≡◌, ◌≤◌, OnOk, length};
 ghost use Rattle.{outside.specs.Faults.{HasCause}, call_ends.specs.{Common.{Begins, KeepsStore}, Pieces.{pieces_of}}};
 
-use outside::{Board, Failed, STORE_SIZE};
+use outside::{Failed, Printer, STORE_SIZE};
 use std::sync::ledger::Ledger;
 use taxi_units::Steps;
 
@@ -11,7 +11,7 @@ const PIECE_SIZE: usize = 512;
 
 /// Prints a text in pieces of at most 512 bytes, a step each.
 #[tactic(auto, using(crate::proofs::BoardRuns::board_runs))]
-pub fn print_text<B: Board<STORE_SIZE, L>, L: Ledger>(
+pub fn print_text<B: Printer<STORE_SIZE, L>, L: Ledger>(
     text: &[u8],
     board: &mut B,
     steps: &mut Steps<L>,
@@ -20,7 +20,7 @@ pub fn print_text<B: Board<STORE_SIZE, L>, L: Ledger>(
     ensures begun { B.tells_text → Begins (B.printed board.old) (B.printed board.new) text.now }
     ensures cause { HasCause (B.faults board.old) (B.faults board.new) result }
     ensures steps { steps.new ≤ steps.old + pieces_of (length text.now) }
-    ensures store { KeepsStore B.Board board.old board.new }
+    ensures store { KeepsStore B.Printer board.old board.new }
 {
     let mut rest = text;
     while !rest.is_empty() {

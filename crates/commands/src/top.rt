@@ -41,7 +41,7 @@ fn carry_out<F: Files, B: Board<STORE_SIZE, L>, L: Ledger>(
     board: &mut B,
     steps: &mut Steps<L>,
 ) -> Ended
-    ensures { CarriesRow F.Files B.Board row files.old files.new board.old board.new steps.old steps.new result }
+    ensures { CarriesRow F.Files B.Printer row files.old files.new board.old board.new steps.old steps.new result }
 {
     match row {
         Row::Check => check_tariff(alloc, files),
@@ -148,7 +148,7 @@ pub fn taxi<F: Files, B: Board<STORE_SIZE, L>, L: Ledger>(
     // A call takes a course that its words, their files' contents and the opening image allow, and ends as it says. It
     // leaves each file unread that it doesn't come to read, as the drive if the tariff is refused.
     ensures call { (called_by words.now).told F.tells B.tells_image
-        → IsCall F.Files B.Board (called_by words.now) files.old files.new board.old board.new result }
+        → IsCall F.Files B.Printer (called_by words.now) files.old files.new board.old board.new result }
 
     // Refused words read nothing, and no command reads a word that it doesn't name, whatever the files tell.
     ensures refused { row_in words.now ≡ None → files.new ≡ files.old }
@@ -163,34 +163,35 @@ pub fn taxi<F: Files, B: Board<STORE_SIZE, L>, L: Ledger>(
 
     // If no count rose, the status is that of the answer, unless memory ran out.
     ensures complete { (called_by words.now).told F.tells B.tells_image
-        → ComesToAnswer F.Files B.Board (called_by words.now) files.old files.new board.old board.new result }
+        → ComesToAnswer F.Files B.Printer (called_by words.now) files.old files.new board.old board.new result }
 
     // The steps: one for the last line, one for each row of tables, at most 31 for offsets; 64 for an opening of the
     // store, and for each event of a drive that is run and the supply drop at its end; one for each 512 bytes that are
     // printed of a bench, a form, faults, lines or a comparison; one for each reply, two for each byte of a shift book.
-    ensures steps { TakesSteps F.Files B.Board (called_by words.now) files.old files.new board.old steps.old steps.new }
+    ensures steps { TakesSteps F.Files B.Printer (called_by words.now) files.old files.new board.old steps.old
+        steps.new }
 
     // A command that doesn't open the store leaves alone what it holds; no clause says that it doesn't read it. Nothing
     // is written unless the command may write.
-    ensures kept { ¬ (called_by words.now).opens → KeepsStore B.Board board.old board.new }
-    ensures unwritten { ¬ (called_by words.now).writes result → WritesNothing B.Board board.old board.new result }
+    ensures kept { ¬ (called_by words.now).opens → KeepsStore B.Printer board.old board.new }
+    ensures unwritten { ¬ (called_by words.now).writes result → WritesNothing B.Printer board.old board.new result }
 
     // A command that opens the store leaves nothing in flight, unless the board failed.
     ensures at_rest { (called_by words.now).told F.tells B.tells_image → B.tells_image
-        → (called_by words.now).opens → result ≢ 8 → IsAtRest B.Board board.new }
+        → (called_by words.now).opens → result ≢ 8 → IsAtRest B.Printer board.new }
 
     // If a command only looks at the store, a cut of the power from its opening sync on leaves the image as it was.
     ensures looks { IsReadOnlyRow (row_in words.now) → B.tells_image
-        → LeavesImage B.Board (result ≡ 8) board.old board.new }
+        → LeavesImage B.Printer (result ≡ 8) board.old board.new }
 
     // Sealing leaves what it says at 0. A cut of the power from its opening sync on leaves the store that was found, or
     // one amid the sealing; a cut before that sync has succeeded leaves what it might have left before the call. So if
     // nothing was in flight before, a cut at any moment of the call leaves an image amid the sealing. If a byte of the
     // line `SEALED n` was printed before the cut, it leaves the new seal.
     ensures seals { row_in words.now ≡ Some Row.Seal → F.tells → B.tells_image
-        → Seals B.Board (sealing_by F.Files B.Board files.old board.old) board.old board.new result }
-    ensures settled { row_in words.now ≡ Some Row.Seal → F.tells → B.tells_image → IsAtRest B.Board board.old
-        → LeavesOnly B.Board board.old board.new (MayLeaveSealingBy F.Files B.Board files.old board.old) }
+        → Seals B.Printer (sealing_by F.Files B.Printer files.old board.old) board.old board.new result }
+    ensures settled { row_in words.now ≡ Some Row.Seal → F.tells → B.tells_image → IsAtRest B.Printer board.old
+        → LeavesOnly B.Printer board.old board.new (MayLeaveSealingBy F.Files B.Printer files.old board.old) }
 
     // The headline. A run prints the displays, refusals and receipts that the tariff's text means for its drive, and no
     // others. In the end the store has the state after all its commits. A cut of the power from the run's opening sync
@@ -198,7 +199,7 @@ pub fn taxi<F: Files, B: Board<STORE_SIZE, L>, L: Ledger>(
     // entries before that place, with as many commits as the stored number says. Each hiring of whose receipt a byte
     // was printed has its entry among them. `IsRun` says it clause by clause.
     ensures runs { row_in words.now ≡ Some Row.Run → F.tells → B.tells_image
-        → IsRun F.Files B.Board files.old files.new board.old board.new result }
+        → IsRun F.Files B.Printer files.old files.new board.old board.new result }
 {
     match row_in(words) {
         None => finish(Ended::BadWords, board, steps),

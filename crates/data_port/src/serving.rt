@@ -10,7 +10,7 @@ use crate::port::Port;
 use crate::reply::put_reply;
 use crate::request::Request;
 use arrayvec::ArrayVec;
-use outside::{Board, Failed, Files, STORE_SIZE};
+use outside::{Failed, Files, Printer, STORE_SIZE};
 use seal_record::Seal;
 use std::sync::ledger::Ledger;
 use taxi_units::{Line, STREAM_LIMIT, Steps};
@@ -40,7 +40,7 @@ pub enum PortFault {
 /// of the replies was printed, and with each other answer neither count rose.
 ///
 /// The durable state and the seal are in their ranges. All of it is this project's own.
-pub fn serve<F: Files, B: Board<STORE_SIZE, L>, L: Ledger>(
+pub fn serve<F: Files, B: Printer<STORE_SIZE, L>, L: Ledger>(
     durable: &Durable,
     seal: &Seal,
     files: &mut F,
@@ -58,7 +58,7 @@ pub fn serve<F: Files, B: Board<STORE_SIZE, L>, L: Ledger>(
     ensures board_fault { RisesOnlyIf (result ≡ Err PortFault.BoardFault) (B.faults board.old) (B.faults board.new) }
     ensures counts { (other : ℕ)
         → MayRise (result ≡ Err PortFault.ReadFault) (F.faults files.old other) (F.faults files.new other) }
-    ensures store { KeepsStore B.Board board.old board.new }
+    ensures store { KeepsStore B.Printer board.old board.new }
 {
     let mut port = Port::new();
     let mut piece = [0; 512];
@@ -129,7 +129,7 @@ fn end(port: &Port) -> Result<(), PortFault>
 }
 
 /// Prints the replies to the requests that end in a piece.
-fn serve_piece<B: Board<STORE_SIZE, L>, L: Ledger>(
+fn serve_piece<B: Printer<STORE_SIZE, L>, L: Ledger>(
     port: &mut Port,
     piece: &[u8],
     durable: &Durable,
@@ -146,7 +146,7 @@ fn serve_piece<B: Board<STORE_SIZE, L>, L: Ledger>(
         (B.printed board.old) (B.printed board.new) result }
     ensures steps { steps.new ≤ steps.old + length (ended_in port.old piece.now) }
     ensures board_fault { RisesOnlyIf (result ≡ Err PortFault.BoardFault) (B.faults board.old) (B.faults board.new) }
-    ensures store { KeepsStore B.Board board.old board.new }
+    ensures store { KeepsStore B.Printer board.old board.new }
 {
     let mut rest = piece;
     while !rest.is_empty() {
@@ -168,7 +168,7 @@ fn serve_piece<B: Board<STORE_SIZE, L>, L: Ledger>(
 
 /// Prints the replies to requests, in order.
 #[tactic(auto, using(outside::proofs::Laws::keeps_none, outside::proofs::Laws::keeps_then))]
-fn print_replies<B: Board<STORE_SIZE, L>, L: Ledger>(
+fn print_replies<B: Printer<STORE_SIZE, L>, L: Ledger>(
     requests: &[Request],
     durable: &Durable,
     seal: &Seal,
@@ -184,7 +184,7 @@ fn print_replies<B: Board<STORE_SIZE, L>, L: Ledger>(
         → Begins (B.printed board.old) (B.printed board.new) (replies durable.now seal.now requests.now) }
     ensures cause { HasCause (B.faults board.old) (B.faults board.new) result }
     ensures steps { steps.new ≤ steps.old + length requests.now }
-    ensures store { KeepsStore B.Board board.old board.new }
+    ensures store { KeepsStore B.Printer board.old board.new }
 {
     for request in requests {
         print_reply(request, durable, seal, board, steps)?;
@@ -194,7 +194,7 @@ fn print_replies<B: Board<STORE_SIZE, L>, L: Ledger>(
 
 /// Prints the reply to a request.
 #[tactic(auto, using(outside::proofs::Laws::keeps_print))]
-fn print_reply<B: Board<STORE_SIZE, L>, L: Ledger>(
+fn print_reply<B: Printer<STORE_SIZE, L>, L: Ledger>(
     request: &Request,
     durable: &Durable,
     seal: &Seal,
@@ -210,7 +210,7 @@ fn print_reply<B: Board<STORE_SIZE, L>, L: Ledger>(
         → Begins (B.printed board.old) (B.printed board.new) (reply_to durable.now seal.now request.now) }
     ensures cause { HasCause (B.faults board.old) (B.faults board.new) result }
     ensures steps { steps.new ≤ steps.old + 1 }
-    ensures store { KeepsStore B.Board board.old board.new }
+    ensures store { KeepsStore B.Printer board.old board.new }
 {
     let mut line = Line::new();
     put_reply(&mut line, request, durable, seal);

@@ -1,7 +1,7 @@
 -- Made by tools/make/imports: what several files of this crate bring in of its types and of crates below.
 pub use Rattle.taxi_units.specs.{Number.{money_text}, Time.{first_second}, declared.event.Event.{Event}}
 pub use Rattle.{outside.specs.{Disk.{SameBut}, Faults.{Rose}}, slot_store.specs.declared.found.SlotFault.{SlotFault}}
-pub use Rattle.outside.specs.{PrintedText.{Begins}, Reading.{LeavesOthers}, declared.board.Board.{Ghosts}}
+pub use Rattle.outside.specs.{PrintedText.{Begins}, Reading.{LeavesOthers}, declared.printer.Printer.{Ghosts}}
 pub use Rattle.slot_store.specs.{Scan.{found_at}, Syncs.{LeavesFromSync}, declared.found.Found.{Found}}
 pub use Rattle.{drive_modes.specs.declared.charges.Mode.TheVariants.{Single}, drive_text.specs.Ending.{events_of}}
 pub use Rattle.drive_text.specs.{Drive.{events_in}, Ranges.{IsRunInRange}, Runs.{run_events}, declared.run.Run.{Run}}

@@ -18,7 +18,7 @@ pub fn bench<F: Files, B: Board<STORE_SIZE, L>, L: Ledger>(
     board: &mut B,
     steps: &mut Steps<L>,
 ) -> Ended
-    ensures { Carries F.Files B.Board bench_command files.old files.new board.old board.new
+    ensures { Carries F.Files B.Printer bench_command files.old files.new board.old board.new
         steps.old steps.new result }
 {
     let terms = match open_terms(alloc, files, board, steps) {

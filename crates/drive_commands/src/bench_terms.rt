@@ -32,7 +32,7 @@ pub fn open_terms<F: Files, B: Board<STORE_SIZE, L>, L: Ledger>(
     ensures ended { F.tells → OnOk result (F.rest files.new 1 ≡ []) }
     ensures refused { F.tells → B.tells_image → IfErr result (HasNoTerms (B.image board.old) (F.rest files.old 1)
         (Rose (F.faults files.old 1) (F.faults files.new 1)) (Rose (B.faults board.old) (B.faults board.new))) }
-    ensures opens { OnlyOpens B.Board (IsErrOf result Ended.BoardFault) board.old board.new }
+    ensures opens { OnlyOpens B.Printer (IsErrOf result Ended.BoardFault) board.old board.new }
     ensures read_fault { result ≡ Err Ended.ReadFault → Rose (F.faults files.old 1) (F.faults files.new 1) }
     ensures others { LeavesOthers F.rest 1 files.old files.new }
     ensures unread { B.tells_image → (other : ℕ) → ¬ ((other ≡ 1) × IsSealedIn (B.image board.old))

@@ -10,7 +10,7 @@ use crate::explained_text::text_of_explained;
 use crate::whole_drive::read_drive;
 use call_ends::{Ended, print_text, read_tariff, refused_by};
 use drive_text::Run;
-use outside::{Board, Files, STORE_SIZE};
+use outside::{Files, Printer, STORE_SIZE};
 use seal_record::Params;
 use std::alloc::Global;
 use std::sync::ledger::Ledger;
@@ -21,13 +21,13 @@ use verify_bench::explain as explain_runs;
 
 /// Reads the tariff of word 1, the parameters of word 3 and the drive of word 2, and prints why the fares of its
 /// hirings are what they are, as on a new store. It prints nothing before all is known, and opens no store.
-pub fn explain<F: Files, B: Board<STORE_SIZE, L>, L: Ledger>(
+pub fn explain<F: Files, B: Printer<STORE_SIZE, L>, L: Ledger>(
     alloc: Global,
     files: &mut F,
     board: &mut B,
     steps: &mut Steps<L>,
 ) -> Ended
-    ensures { Carries F.Files B.Board explain_command files.old files.new board.old board.new
+    ensures { Carries F.Files B.Printer explain_command files.old files.new board.old board.new
         steps.old steps.new result }
 {
     let text = match explanation(alloc, files) {

@@ -5,8 +5,8 @@ use crate::drive_ends::ended_of;
 use crate::fare_seal::fare_seal;
 use call_ends::{Ended, refused_by};
 use drive_modes::Constant;
-use meter_run::dry_run;
-use outside::{Board, Files, STORE_SIZE};
+use meter_run::print_drive;
+use outside::{Files, Printer, STORE_SIZE};
 use std::alloc::Global;
 use std::sync::ledger::Ledger;
 use tariff_commands::tables_of_word;
@@ -14,14 +14,14 @@ use taxi_units::Steps;
 
 /// Reads the tariff of word 1, and carries out the drive of word 2 under its tables, without a store.
 #[tactic(auto, using(call_ends::proofs::Laws::board_runs))]
-pub fn fare<F: Files, B: Board<STORE_SIZE, L>, L: Ledger>(
+pub fn fare<F: Files, B: Printer<STORE_SIZE, L>, L: Ledger>(
     alloc: Global,
     constant: Constant,
     files: &mut F,
     board: &mut B,
     steps: &mut Steps<L>,
 ) -> Ended
-    ensures { Carries F.Files B.Board (fare_command constant) files.old files.new board.old board.new
+    ensures { Carries F.Files B.Printer (fare_command constant) files.old files.new board.old board.new
         steps.old steps.new result }
 {
     let tables = match tables_of_word(alloc, files, 1, constant) {
@@ -29,6 +29,6 @@ pub fn fare<F: Files, B: Board<STORE_SIZE, L>, L: Ledger>(
         Err(fault) => return refused_by(fault),
     };
     let seal = fare_seal(constant, tables.decimals());
-    let ran = dry_run(&tables, &seal, files, 2, board, steps);
+    let ran = print_drive(&tables, &seal, files, 2, board, steps);
     ended_of(ran)
 }

@@ -13,7 +13,7 @@ use drive_modes::{Constant, Mode};
 use interval_clock::Offsets;
 use meter_run::run_events;
 use meter_store::place_seal;
-use outside::{Board, Files, QuietBoard, STORE_SIZE};
+use outside::{Board, Files, Printer, QuietBoard, STORE_SIZE};
 use seal_record::{Params, Seal};
 use slot_store::{Found, scan};
 use std::alloc::Global;
@@ -130,8 +130,8 @@ fn run_afresh<F: Files, B: Board<STORE_SIZE, L>, L: Ledger>(
     requires constant { tables.now.constant ≡ seal.now.params.constant }
     requires seal { IsSeal seal.now }
     requires number { seal.now.seal_number ≡ 1 }
-    requires blank { B.tells_image → FoundTotals B.Board board.old None }
-    requires unsealed { B.tells_image → FoundSeal B.Board board.old None None }
+    requires blank { B.tells_image → FoundTotals B.Printer board.old None }
+    requires unsealed { B.tells_image → FoundSeal B.Printer board.old None None }
     ensures state { F.tells → B.tells_image → drive_end (F.rest files.old 0) ≡ Whole
         → ¬ Rose (F.faults files.old 0) (F.faults files.new 0) → ¬ Rose (B.faults board.old) (B.faults board.new)
         → (s : Setting) → IsSettingOf s tables.now seal.now → result ≡ Some (state_after s (F.rest files.old 0)) }
@@ -191,7 +191,7 @@ fn summary(seed: u64, trips: u32, durable: &Durable, decimals: u8) -> Line
 /// Carries out the drive of a seed and of 1 to 1,000 trips on a meter of its own under the city tariff, and prints how
 /// many events it has and the totals of that meter.
 #[tactic(auto, using(call_ends::proofs::Laws::board_runs))]
-pub fn generate<B: Board<STORE_SIZE, L>, L: Ledger>(
+pub fn generate<B: Printer<STORE_SIZE, L>, L: Ledger>(
     alloc: Global,
     seed: u64,
     trips: u32,
@@ -199,7 +199,7 @@ pub fn generate<B: Board<STORE_SIZE, L>, L: Ledger>(
     steps: &mut Steps<L>,
 ) -> Ended
     requires { (1 ≤ trips) × (trips ≤ 1000) }
-    ensures { (contents : ℕ → List ℕ) → Carries (no_files contents) B.Board (gen_command seed trips) tt tt
+    ensures { (contents : ℕ → List ℕ) → Carries (no_files contents) B.Printer (gen_command seed trips) tt tt
         board.old board.new steps.old steps.new result }
 {
     let text = city_tariff();

@@ -65,13 +65,13 @@ fn begin<F: Files, B: Board<STORE_SIZE, L>, L: Ledger>(
     steps: &mut Steps<L>,
 ) -> Result<Begun, Ended>
     ensures begun { F.tells → B.tells_image → IfOk result (λ begun.
-        HasBegun B.Board (B.image board.old) (F.rest files.old 1) board.new begun.seal begun.tables) }
+        HasBegun B.Printer (B.image board.old) (F.rest files.old 1) board.new begun.seal begun.tables) }
     ensures seal { IfOk result (λ begun. IsSeal begun.seal) }
     ensures constant { IfOk result (λ begun. begun.tables.constant ≡ begun.seal.params.constant) }
     ensures ended { F.tells → OnOk result (F.rest files.new 1 ≡ []) }
     ensures refused { F.tells → B.tells_image → IfErr result (HasNotBegun (B.image board.old) (F.rest files.old 1)
         (Rose (F.faults files.old 1) (F.faults files.new 1)) (Rose (B.faults board.old) (B.faults board.new))) }
-    ensures opens { OnlyOpens B.Board (IsErrOf result Ended.BoardFault) board.old board.new }
+    ensures opens { OnlyOpens B.Printer (IsErrOf result Ended.BoardFault) board.old board.new }
     ensures unread { B.tells_image → (other : ℕ) → ¬ ((other ≡ 1) × IsSealedIn (B.image board.old))
         → F.rest files.new other ≡ F.rest files.old other }
     ensures read_fault { result ≡ Err Ended.ReadFault → Rose (F.faults files.old 1) (F.faults files.new 1) }
@@ -94,10 +94,10 @@ pub fn run<F: Files, B: Board<STORE_SIZE, L>, L: Ledger>(
     board: &mut B,
     steps: &mut Steps<L>,
 ) -> Ended
-    ensures carries { Carries F.Files B.Board run_command files.old files.new board.old board.new
+    ensures carries { Carries F.Files B.Printer run_command files.old files.new board.old board.new
         steps.old steps.new result }
     ensures runs { F.tells → B.tells_image
-        → RunReachesLine F.Files B.Board files.old files.new board.old board.new result }
+        → RunReachesLine F.Files B.Printer files.old files.new board.old board.new result }
 {
     let begun = match begin(alloc, files, board, steps) {
         Ok(begun) => begun,

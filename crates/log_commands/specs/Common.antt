@@ -1,7 +1,7 @@
 -- Made by tools/make/imports: what several files of this crate bring in of its types and of crates below.
 pub use Rattle.taxi_units.specs.{Streams.{stream_limit}, declared.receipt.Receipt.{Receipt}}
-pub use Rattle.outside.specs.{Disk.{MayLeave, SameBut}, PrintedText.{Begins}, declared.board.Board.{Ghosts}}
-pub use Rattle.outside.specs.{Faults.{HasCause, MayRise, RisesOnlyIf, Rose}, Runs.{KeepsStore, LeavesOnly}}
+pub use Rattle.outside.specs.{Disk.{MayLeave, SameBut}, PrintedText.{Begins}, Runs.{KeepsStore, LeavesOnly}}
+pub use Rattle.outside.specs.{Faults.{HasCause, MayRise, RisesOnlyIf, Rose}, declared.printer.Printer.{Ghosts}}
 pub use Rattle.slot_store.specs.{Syncs.{IsAsHeld, LeavesFromSync, ReadsOnly}, Writes.{OrWithin}}
 pub use Rattle.receipt_text.specs.{Grammar.{IsReceiptText}, Part.{Part}}
 pub use Rattle.log_commands.specs.declared.ending.Ended.{Ended, TheVariants.{OtherTaxi, ReadFault, Shown, TooLong}}

@@ -36,7 +36,7 @@ fn shut_gate<G: Board<LOG_SIZE, L>, L: Ledger>(
 ) -> Result<(), Failed>
     ensures any_moment { G.tells_image → (records : List Record)
         → IsReady (G.image log.old) (G.in_flight log.old) last is_open records
-        → LeavesOnly G.Board log.old log.new (λ image text. IsListKept records image) }
+        → LeavesOnly G.Printer log.old log.new (λ image text. IsListKept records image) }
     ensures shut { G.tells_image → OnOk result ((records : List Record)
         → IsReady (G.image log.old) (G.in_flight log.old) last is_open records
         → IsShut (G.image log.new) (G.in_flight log.new) last (last_ones 255 records)) }
@@ -61,7 +61,7 @@ fn write_body<G: Board<LOG_SIZE, L>, L: Ledger>(
     requires place { last < it.now.number }
     ensures any_moment { G.tells_image → (records : List Record)
         → IsShut (G.image log.old) (G.in_flight log.old) last records
-        → LeavesOnly G.Board log.old log.new (λ image text. StandsFor records image) }
+        → LeavesOnly G.Printer log.old log.new (λ image text. StandsFor records image) }
     ensures written { G.tells_image → OnOk result ((records : List Record)
         → IsShut (G.image log.old) (G.in_flight log.old) last records
         → IsWritten (G.image log.new) (G.in_flight log.new) last records it.now) }
@@ -81,7 +81,7 @@ fn open_gate<G: Board<LOG_SIZE, L>, L: Ledger>(
 ) -> Result<(), Failed>
     ensures any_moment { G.tells_image → (records : List Record) (it : Record)
         → IsWritten (G.image log.old) (G.in_flight log.old) last records it → RiseFrom 0 (records ++ it ∷ [])
-        → LeavesOnly G.Board log.old log.new
+        → LeavesOnly G.Printer log.old log.new
         (λ image text. StandsFor records image ⊎ StandsFor (records ++ it ∷ []) image) }
     ensures ready { G.tells_image → OnOk result ((records : List Record) (it : Record)
         → IsWritten (G.image log.old) (G.in_flight log.old) last records it → RiseFrom 0 (records ++ it ∷ [])
@@ -108,7 +108,7 @@ pub(crate) fn append<G: Board<LOG_SIZE, L>, L: Ledger>(
     requires place { last < it.now.number }
     ensures any_moment { G.tells_image → (records : List Record)
         → IsReady (G.image log.old) (G.in_flight log.old) last is_open records → RiseFrom 0 (records ++ it.now ∷ [])
-        → LeavesOnly G.Board log.old log.new (λ image text. IsStep records it.now image) }
+        → LeavesOnly G.Printer log.old log.new (λ image text. IsStep records it.now image) }
     ensures ready { G.tells_image → OnOk result ((records : List Record)
         → IsReady (G.image log.old) (G.in_flight log.old) last is_open records → RiseFrom 0 (records ++ it.now ∷ [])
         → IsReady (G.image log.new) (G.in_flight log.new) (last + 1) (nat_lt 254 last)

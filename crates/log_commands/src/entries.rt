@@ -21,7 +21,7 @@ fn read_entry<G: Board<LOG_SIZE, L>, L: Ledger>(
         → (other ≡ slot) × (G.tells_image → IsBad (G.image log.old) slot) }
     ensures cause { RisesOnlyIf (result ≡ Err DeviceFailed) (G.faults log.old) (G.faults log.new) }
     ensures image { G.image log.new ≡ G.image log.old }
-    ensures reads { ReadsOnly G.Board log.old log.new }
+    ensures reads { ReadsOnly G.Printer log.old log.new }
     ensures step { steps.new ≡ steps.old + 1 }
 {
     let content = read_slot(slot, log, steps)?;
@@ -38,7 +38,7 @@ pub(crate) fn read_entries<G: Board<LOG_SIZE, L>, L: Ledger>(
     ensures bad { (slot : ℕ) → result ≡ Err (BadSlot slot) → G.tells_image → IsLowestBad (G.image log.old) slot }
     ensures cause { RisesOnlyIf (result ≡ Err DeviceFailed) (G.faults log.old) (G.faults log.new) }
     ensures image { G.image log.new ≡ G.image log.old }
-    ensures reads { ReadsOnly G.Board log.old log.new }
+    ensures reads { ReadsOnly G.Printer log.old log.new }
     ensures steps { steps.new ≤ steps.old + 256 }
 {
     let mut entries = [None; SLOTS];

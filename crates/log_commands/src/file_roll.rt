@@ -48,9 +48,9 @@ pub(crate) fn file_roll<F: Files, G: Board<LOG_SIZE, L>, L: Ledger>(
     requires last { IsLast tail.old.last tail.old.newest }
     requires none { tail.old.filed ≡ 0 }
     ensures last { OnOk result (IsLast tail.new.last tail.new.newest) }
-    ensures ok { IfOk result (λ end. FilesRoll G.Board G.tells_image F.tells log.old log.new
+    ensures ok { IfOk result (λ end. FilesRoll G.Printer G.tells_image F.tells log.old log.new
         tail.old tail.new (F.rest files.old word) (F.rest files.new word) end steps.old steps.new) }
-    ensures failed { OnErr result (FailsInRoll G.Board G.tells_image F.tells log.old log.new
+    ensures failed { OnErr result (FailsInRoll G.Printer G.tells_image F.tells log.old log.new
         tail.old (F.rest files.old word) (F.rest files.new word) steps.old steps.new) }
     ensures text { G.printed log.new ≡ G.printed log.old }
     ensures cause { HasCause (G.faults log.old) (G.faults log.new) result }

@@ -41,7 +41,7 @@ fn read_newest<G: Board<LOG_SIZE, L>, L: Ledger>(
     ensures last { IfOk result (IsLast last) }
     ensures cause { RisesOnlyIf (result ≡ Err DeviceFailed) (G.faults log.old) (G.faults log.new) }
     ensures image { G.image log.new ≡ G.image log.old }
-    ensures reads { ReadsOnly G.Board log.old log.new }
+    ensures reads { ReadsOnly G.Printer log.old log.new }
     ensures step { steps.new ≤ steps.old + 1 }
 {
     if last == 0 {
@@ -103,7 +103,7 @@ fn tail_of<G: Board<LOG_SIZE, L>, L: Ledger>(
     ensures last { IfOk result (λ tail. IsLast tail.last tail.newest × (tail.filed ≡ 0)) }
     ensures cause { RisesOnlyIf (result ≡ Err LogFault) (G.faults log.old) (G.faults log.new) }
     ensures image { G.image log.new ≡ G.image log.old }
-    ensures reads { ReadsOnly G.Board log.old log.new }
+    ensures reads { ReadsOnly G.Printer log.old log.new }
     ensures steps { steps.new ≤ steps.old + 1 }
 {
     let last = newest_place(entries);
@@ -137,9 +137,9 @@ pub(crate) fn find_tail<G: Board<LOG_SIZE, L>, L: Ledger>(
     ensures broken { result ≡ Err Broken → G.tells_image → IsBroken (G.image log.old) }
     ensures last { IfOk result (λ tail. IsLast tail.last tail.newest × (tail.filed ≡ 0)) }
     ensures cause { RisesOnlyIf (result ≡ Err LogFault) (G.faults log.old) (G.faults log.new) }
-    ensures synced { G.tells_image → LeavesFromSync G.Board (result ≡ Err LogFault)
-        log.old log.new (IsAsHeld G.Board log.old) }
-    ensures reads { ReadsOnly G.Board log.old log.new }
+    ensures synced { G.tells_image → LeavesFromSync G.Printer (result ≡ Err LogFault)
+        log.old log.new (IsAsHeld G.Printer log.old) }
+    ensures reads { ReadsOnly G.Printer log.old log.new }
     ensures same { result ≢ Err LogFault → G.image log.new ≡ G.image log.old }
     ensures steps { steps.new ≤ steps.old + 258 }
 {

@@ -57,7 +57,7 @@ pub(crate) fn read_slot<G: Board<LOG_SIZE, L>, L: Ledger>(
     ensures content { G.tells_image → IfOk result (IsContent (G.image log.old) slot) }
     ensures sound { IfOk result IsContentInRange }
     ensures image { G.image log.new ≡ G.image log.old }
-    ensures reads { ReadsOnly G.Board log.old log.new }
+    ensures reads { ReadsOnly G.Printer log.old log.new }
     ensures cause { HasCause (G.faults log.old) (G.faults log.new) result }
     ensures step { steps.new ≡ steps.old + 1 }
 {

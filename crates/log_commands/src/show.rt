@@ -20,7 +20,7 @@ fn show_one<G: Board<LOG_SIZE, L>, L: Ledger>(
         → OnOk result (G.printed log.new ≡ G.printed log.old ++ it.text) }
     ensures begun { G.tells_image → G.tells_text → (it : Record) → HasRecord (G.image log.old) (slot_of place) place it
         → Begins (G.printed log.old) (G.printed log.new) it.text }
-    ensures keeps { KeepsStore G.Board log.old log.new }
+    ensures keeps { KeepsStore G.Printer log.old log.new }
     ensures cause { HasCause (G.faults log.old) (G.faults log.new) result }
     ensures steps { steps.new ≤ steps.old + 2 }
 {
@@ -48,7 +48,7 @@ pub(crate) fn show_records<G: Board<LOG_SIZE, L>, L: Ledger>(
     ensures begun { G.tells_image → G.tells_text → (records : List Record)
         → AreInSlots (G.image log.old) first records → length records ≡ count
         → Begins (G.printed log.old) (G.printed log.new) (texts_of records) }
-    ensures keeps { KeepsStore G.Board log.old log.new }
+    ensures keeps { KeepsStore G.Printer log.old log.new }
     ensures cause { HasCause (G.faults log.old) (G.faults log.new) result }
     ensures steps { steps.new ≤ steps.old + 2 * count }
 {

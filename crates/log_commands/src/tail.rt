@@ -33,9 +33,9 @@ fn append_one<G: Board<LOG_SIZE, L>, L: Ledger>(
     requires few { tail.old.filed < 2 ^ 63 }
     ensures last { OnOk result (IsLast tail.new.last tail.new.newest) }
     ensures filed { OnOk result (tail.new.filed ≡ tail.old.filed + 1) }
-    ensures files { OnOk result (FilesTo G.Board G.tells_image log.old log.new tail.old tail.new
+    ensures files { OnOk result (FilesTo G.Printer G.tells_image log.old log.new tail.old tail.new
         (receipt ∷ []) (receipt ∷ [])) }
-    ensures any_moment { LeavesSome G.Board G.tells_image log.old log.new tail.old (receipt ∷ []) }
+    ensures any_moment { LeavesSome G.Printer G.tells_image log.old log.new tail.old (receipt ∷ []) }
     ensures text { G.printed log.new ≡ G.printed log.old }
     ensures cause { HasCause (G.faults log.old) (G.faults log.new) result }
     ensures steps { steps.new ≤ steps.old + 6 }
@@ -62,12 +62,12 @@ pub(crate) fn file_one<G: Board<LOG_SIZE, L>, L: Ledger>(
     ensures filed { OnOk result ((tail.old.filed ≤ tail.new.filed) × (tail.new.filed ≤ tail.old.filed + 1)) }
     ensures other { result ≡ Ok Filing.OtherTaxi → IsOther tail.old.newest receipt
         × (tail.new ≡ tail.old) × (log.new ≡ log.old) × (steps.new ≡ steps.old) }
-    ensures passed { result ≡ Ok Filing.Passed → FilesTo G.Board G.tells_image log.old log.new
+    ensures passed { result ≡ Ok Filing.Passed → FilesTo G.Printer G.tells_image log.old log.new
         tail.old tail.new (receipt ∷ []) [] × (steps.new ≡ steps.old) }
-    ensures appended { result ≡ Ok Filing.Appended → FilesTo G.Board G.tells_image log.old log.new
+    ensures appended { result ≡ Ok Filing.Appended → FilesTo G.Printer G.tells_image log.old log.new
         tail.old tail.new (receipt ∷ []) (receipt ∷ []) }
     ensures failed { OnErr result (IsNewer tail.old.newest receipt
-        × LeavesSome G.Board G.tells_image log.old log.new tail.old (receipt ∷ [])) }
+        × LeavesSome G.Printer G.tells_image log.old log.new tail.old (receipt ∷ [])) }
     ensures text { G.printed log.new ≡ G.printed log.old }
     ensures cause { HasCause (G.faults log.old) (G.faults log.new) result }
     ensures steps { steps.new ≤ steps.old + 6 }

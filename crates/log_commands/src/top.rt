@@ -46,7 +46,7 @@ fn file<F: Files, G: Board<LOG_SIZE, L>, L: Ledger>(
     log: &mut G,
     steps: &mut Steps<L>,
 ) -> Ended
-    ensures comes { F.tells → G.tells_image → CallReachesLine F.Files G.Board (Some Call.File)
+    ensures comes { F.tells → G.tells_image → CallReachesLine F.Files G.Printer (Some Call.File)
         files.old files.new log.old log.new steps.old steps.new result }
     ensures read_fault { result ≡ Ended.ReadFault → Rose (F.faults files.old 1) (F.faults files.new 1) }
     ensures reads { (word : ℕ) → MayRise (MayHaveReadFault (status_of result))
@@ -54,7 +54,7 @@ fn file<F: Files, G: Board<LOG_SIZE, L>, L: Ledger>(
     ensures board_fault { RisesOnlyIf (result ≡ Ended.BoardFault) (G.faults log.old) (G.faults log.new) }
     ensures has { MayHave (Some Call.File) (status_of result) }
     ensures looks { WritesNothing (Some Call.File) (status_of result)
-        → LeavesLogUnwritten G.Board log.old log.new (status_of result) }
+        → LeavesLogUnwritten G.Printer log.old log.new (status_of result) }
     ensures untaken { WritesNothing (Some Call.File) (status_of result) → files.new ≡ files.old }
     ensures others { (word : ℕ) → word ≢ 1 → F.rest files.new word ≡ F.rest files.old word }
 {
@@ -87,12 +87,12 @@ fn count_of(tail: &Tail) -> u64
 
 /// Finds the end of the log, and prints its records, the oldest first.
 fn show<F: Files, G: Board<LOG_SIZE, L>, L: Ledger>(log: &mut G, steps: &mut Steps<L>) -> Ended
-    ensures comes { G.tells_image → (files : F) → CallReachesLine F.Files G.Board (Some Call.Show)
+    ensures comes { G.tells_image → (files : F) → CallReachesLine F.Files G.Printer (Some Call.Show)
         files files log.old log.new steps.old steps.new result }
     ensures unread { result ≢ Ended.ReadFault }
     ensures board_fault { RisesOnlyIf (result ≡ Ended.BoardFault) (G.faults log.old) (G.faults log.new) }
     ensures has { MayHave (Some Call.Show) (status_of result) }
-    ensures looks { LeavesLogUnwritten G.Board log.old log.new (status_of result) }
+    ensures looks { LeavesLogUnwritten G.Printer log.old log.new (status_of result) }
     ensures steps { steps.new ≤ steps.old + 770 }
 {
     let tail = match find_tail(log, steps) {
@@ -113,7 +113,7 @@ fn carry_out<F: Files, G: Board<LOG_SIZE, L>, L: Ledger>(
     log: &mut G,
     steps: &mut Steps<L>,
 ) -> Ended
-    ensures comes { known_of call F.tells G.tells_image → CallReachesLine F.Files G.Board call
+    ensures comes { known_of call F.tells G.tells_image → CallReachesLine F.Files G.Printer call
         files.old files.new log.old log.new steps.old steps.new result }
     ensures read_fault { result ≡ Ended.ReadFault → Rose (F.faults files.old 1) (F.faults files.new 1) }
     ensures reads { (word : ℕ) → MayRise (MayHaveReadFault (status_of result))
@@ -121,7 +121,7 @@ fn carry_out<F: Files, G: Board<LOG_SIZE, L>, L: Ledger>(
     ensures board_fault { RisesOnlyIf (result ≡ Ended.BoardFault) (G.faults log.old) (G.faults log.new) }
     ensures has { MayHave call (status_of result) }
     ensures looks { WritesNothing call (status_of result)
-        → LeavesLogUnwritten G.Board log.old log.new (status_of result) }
+        → LeavesLogUnwritten G.Printer log.old log.new (status_of result) }
     ensures untaken { WritesNothing call (status_of result) → files.new ≡ files.old }
     ensures others { (word : ℕ) → word ≢ 1 → F.rest files.new word ≡ F.rest files.old word }
     ensures steps { AreFew call steps.old (steps.new + 1) }
@@ -135,9 +135,9 @@ fn carry_out<F: Files, G: Board<LOG_SIZE, L>, L: Ledger>(
 
 /// Prints the last line of an end, and gives its status, or 8 if the board fails.
 fn finish<G: Board<LOG_SIZE, L>, L: Ledger>(ended: Ended, log: &mut G, steps: &mut Steps<L>) -> u8
-    ensures told { IsTold G.Board ended log.old log.new result }
+    ensures told { IsTold G.Printer ended log.old log.new result }
     ensures silent { line_of ended ≡ [] → (log.new ≡ log.old) × (result ≡ status_of ended) }
-    ensures keeps { KeepsStore G.Board log.old log.new }
+    ensures keeps { KeepsStore G.Printer log.old log.new }
     ensures cause { ended ≢ Ended.BoardFault → RisesOnlyIf (result ≡ 8) (G.faults log.old) (G.faults log.new) }
     ensures steps { steps.new ≤ steps.old + 1 }
 {
@@ -183,7 +183,7 @@ pub fn keep_log<F: Files, G: Board<LOG_SIZE, L>, L: Ledger>(
     // the last 256 or 255 of the found list with some first ones of the filed behind it. A cut before that sync has
     // succeeded leaves what it might have left before the call. In the end all that is filed is behind the list.
     ensures call { known_of (call_of (map string_bytes words.now)) F.tells G.tells_image
-        → IsCall F.Files G.Board (call_of (map string_bytes words.now))
+        → IsCall F.Files G.Printer (call_of (map string_bytes words.now))
         files.old files.new log.old log.new steps.old steps.new result }
 
     // After status 0, 4 or 5 filing the roll again appends nothing, however much of it is read then.
@@ -207,7 +207,7 @@ pub fn keep_log<F: Files, G: Board<LOG_SIZE, L>, L: Ledger>(
 
     // `show` and a call with refused words or a refused log write nothing, and take nothing of the roll.
     ensures looks { WritesNothing (call_of (map string_bytes words.now)) result
-        → LeavesLogUnwritten G.Board log.old log.new result }
+        → LeavesLogUnwritten G.Printer log.old log.new result }
     ensures untaken { WritesNothing (call_of (map string_bytes words.now)) result → files.new ≡ files.old }
     ensures others { (word : ℕ) → word ≢ 1 → F.rest files.new word ≡ F.rest files.old word }
 

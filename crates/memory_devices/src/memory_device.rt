@@ -8,7 +8,7 @@ ghost use Rattle.memory_devices.specs.MemoryCalls.{PrintsPiece, ReadsPiece, Sync
 
 use crate::memory_state::MemoryState;
 use crate::replay::Fill;
-use outside::{Board, Failed, LOG_SIZE, STORE_SIZE};
+use outside::{Board, Failed, LOG_SIZE, Printer, STORE_SIZE};
 use std::alloc::Global;
 use std::marker::Model;
 use std::sync::ledger::Ledger;
@@ -123,7 +123,7 @@ impl<const N: usize> MemoryDevice<N> {
     }
 }
 
-impl<const N: usize, L: Ledger> Board<N, L> for MemoryDevice<N> {
+impl<const N: usize, L: Ledger> Printer<N, L> for MemoryDevice<N> {
     ghost tells_image = { Unit {0} };
 
     ghost tells_text = { Unit {0} };
@@ -148,6 +148,18 @@ impl<const N: usize, L: Ledger> Board<N, L> for MemoryDevice<N> {
     ghost only_now = { λ b left_image left_text left.
         only_now (opened b.state.start) b.state.calls left_image left_text left };
 
+    fn print(&mut self, bytes: &[u8], steps: &mut Steps<L>) -> Result<(), Failed>
+        requires some { 0 < length bytes.now }
+        requires few { length bytes.now ≤ piece_size }
+        ensures prints { PrintsPiece self.old.state bytes.now self.new.state result }
+        ensures step { steps.new ≡ steps.old + 1 }
+    {
+        steps.spend();
+        self.state.keep_print(bytes)
+    }
+}
+
+impl<const N: usize, L: Ledger> Board<N, L> for MemoryDevice<N> {
     fn read(&mut self, at: u32, buf: &mut [u8], steps: &mut Steps<L>) -> Result<(), Failed>
         requires { IsPiece N at (length buf.old) }
         ensures reads { ReadsPiece self.old.state at buf.old buf.new self.new.state result }
@@ -172,15 +184,5 @@ impl<const N: usize, L: Ledger> Board<N, L> for MemoryDevice<N> {
     {
         steps.spend();
         self.state.keep_sync()
-    }
-
-    fn print(&mut self, bytes: &[u8], steps: &mut Steps<L>) -> Result<(), Failed>
-        requires some { 0 < length bytes.now }
-        requires few { length bytes.now ≤ piece_size }
-        ensures prints { PrintsPiece self.old.state bytes.now self.new.state result }
-        ensures step { steps.new ≡ steps.old + 1 }
-    {
-        steps.spend();
-        self.state.keep_print(bytes)
     }
 }

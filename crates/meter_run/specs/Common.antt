@@ -2,9 +2,9 @@
 pub use Rattle.taxi_units.specs.{Shown.{IsShown}, declared.receipt.Display.{Display}}
 pub use Rattle.taxi_units.specs.declared.event.Event.{Event, TheVariants.{Clock, Down, Key, Pulses, Tick, Up}}
 pub use Rattle.taxi_units.specs.declared.event.Operating.{Operating, TheVariants.{ForHire, Hired, Off, Stopped}}
-pub use Rattle.outside.specs.{Disk.{MayLeaveAmid, SameBut}, Reading.{LeavesOthers}, declared.board.Board.{Ghosts}}
-pub use Rattle.outside.specs.{Faults.{HasCause, MayRise, Rose}, Runs.{IsAtRest, KeepsStore, LeavesNow, LeavesOnly}}
+pub use Rattle.outside.specs.{Disk.{MayLeaveAmid, SameBut}, Faults.{HasCause, MayRise, Rose}, Reading.{LeavesOthers}}
 pub use Rattle.{outside.specs.PrintedText.{Begins}, slot_store.specs.declared.pair.Place.{Place}}
+pub use Rattle.outside.specs.{Runs.{IsAtRest, KeepsStore, LeavesNow, LeavesOnly}, declared.printer.Printer.{Ghosts}}
 pub use Rattle.drive_text.specs.{Drive.{events_in, runs_after}, Reading.{HasTaken, Reading}, declared.run.Run.{Run}}
 pub use Rattle.drive_text.specs.Ending.{BadAt, Endless, IsGoing, IsSplit, ReachesEnd, StreamEnd, Whole, drive_end}
 pub use Rattle.drive_text.specs.{Ending.{events_of, stream_limit}, Runs.{interval_events, intervals_events, run_events}}

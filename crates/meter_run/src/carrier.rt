@@ -3,7 +3,7 @@ ghost use Rattle.std.specs.Prelude.{[], ◌++◌, ◌+◌, ◌∷◌, ◌≤◌,
 ghost use Rattle.meter_run.specs.Common.{HasCause, IsTimely, intervals_events};
 
 use meter_model::Acts;
-use outside::{Board, Failed, STORE_SIZE};
+use outside::{Failed, Printer, STORE_SIZE};
 use seal_record::Seal;
 use std::sync::ledger::Ledger;
 use tariff_compile::Tables;
@@ -18,7 +18,7 @@ pub(crate) struct SealedTables<'a> {
 
 /// A meter that carries out events on a board. What it says of them holds of one event, of none, and of one list of
 /// events behind another. So whoever goes over a drive proves it of a whole drive.
-pub(crate) trait Carrier<B: Board<STORE_SIZE, L>, L: Ledger> {
+pub(crate) trait Carrier<B: Printer<STORE_SIZE, L>, L: Ledger> {
     ghost use Rattle.meter_run.specs.{Common.{Event}, declared.carrier.SealedTables.{SealedTables}};
 
     /// The next event may come.

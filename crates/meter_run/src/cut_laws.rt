@@ -59,33 +59,34 @@ pub fn receipts_are_numbered_in_order<B: Board<STORE_SIZE, L>, L: Ledger>()
 pub fn cuts_open_the_next_run<B: Board<STORE_SIZE, L>, C: Board<STORE_SIZE, L>, L: Ledger>()
     ensures { (tables : TableParts) (seal : Seal) (opening : Durable) (printed : List ℕ) (deeds : List Deed)
         (image text : List ℕ) → (cut : IsCutOfDeeds tables seal B.tells_text opening printed deeds image text)
-        → (board : C) → C.image board ≡ image → IsAtRest C.Board board
-        → OpensWith C.Board tables board cut.found }
+        → (board : C) → C.image board ≡ image → IsAtRest C.Printer board
+        → OpensWith C.Printer tables board cut.found }
 {}
 
 /// A run leaves the seals as they are: each byte from place 1,024 on that isn't in flight. So a pair of seals that is
 /// settled with a seal stays so, in each image that a cut leaves and at the end.
 pub fn runs_leave_the_seals<B: Board<STORE_SIZE, L>, L: Ledger>()
-    ensures bytes { (board : B) (left_image : List ℕ) (place : ℕ) → HasBeside B.Board board left_image
+    ensures bytes { (board : B) (left_image : List ℕ) (place : ℕ) → HasBeside B.Printer board left_image
         → 1024 ≤ place → ¬ B.in_flight board place → get_or left_image place 0 ≡ get_or (B.image board) place 0 }
-    ensures left { (board : B) (left_image : List ℕ) (place : Place) (seal : Seal) → HasBeside B.Board board left_image
-        → HoldsSeal B.Board place board seal → HasSeal left_image seal }
-    ensures kept { (old new : B) (place : Place) (seal : Seal) → WritesTotals B.Board old new
-        → HoldsSeal B.Board place old seal → HoldsSeal B.Board place new seal }
+    ensures left { (board : B) (left_image : List ℕ) (place : Place) (seal : Seal)
+        → HasBeside B.Printer board left_image
+        → HoldsSeal B.Printer place board seal → HasSeal left_image seal }
+    ensures kept { (old new : B) (place : Place) (seal : Seal) → WritesTotals B.Printer old new
+        → HoldsSeal B.Printer place old seal → HoldsSeal B.Printer place new seal }
 {}
 
 /// A line that is printed behind a run, whole or in part, is one more deed of it.
 pub fn lines_follow_a_run<B: Board<STORE_SIZE, L>, L: Ledger>()
     ensures whole { (tables : TableParts) (seal : Seal) (old mid new : B) (opening : Durable) (deeds : List Deed)
-        (line : List ℕ) → HasEntries opening.number deeds → HasDone B.Board tables seal old mid opening deeds
-        → WritesTotals B.Board old mid → KeepsStore B.Board mid new
-        → LeavesOnly B.Board mid new (MayLeaveAmid (B.image mid) (B.in_flight mid) (B.printed mid) line)
+        (line : List ℕ) → HasEntries opening.number deeds → HasDone B.Printer tables seal old mid opening deeds
+        → WritesTotals B.Printer old mid → KeepsStore B.Printer mid new
+        → LeavesOnly B.Printer mid new (MayLeaveAmid (B.image mid) (B.in_flight mid) (B.printed mid) line)
         → (B.tells_text → B.printed new ≡ B.printed mid ++ line)
-        → HasDone B.Board tables seal old new opening (deeds ++ Prints line ∷ []) }
+        → HasDone B.Printer tables seal old new opening (deeds ++ Prints line ∷ []) }
     ensures begun { (tables : TableParts) (seal : Seal) (old mid new : B) (opening : Durable) (deeds : List Deed)
-        (line : List ℕ) → HasEntries opening.number deeds → HasDone B.Board tables seal old mid opening deeds
-        → WritesTotals B.Board old mid → KeepsStore B.Board mid new
-        → LeavesOnly B.Board mid new (MayLeaveAmid (B.image mid) (B.in_flight mid) (B.printed mid) line)
+        (line : List ℕ) → HasEntries opening.number deeds → HasDone B.Printer tables seal old mid opening deeds
+        → WritesTotals B.Printer old mid → KeepsStore B.Printer mid new
+        → LeavesOnly B.Printer mid new (MayLeaveAmid (B.image mid) (B.in_flight mid) (B.printed mid) line)
         → (B.tells_text → Begins (B.printed mid) (B.printed new) line)
-        → HasStopped B.Board tables seal old new opening (deeds ++ Prints line ∷ []) }
+        → HasStopped B.Printer tables seal old new opening (deeds ++ Prints line ∷ []) }
 {}

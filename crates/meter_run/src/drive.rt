@@ -10,13 +10,13 @@ use crate::source::{Source, Stop};
 use arrayvec::ArrayVec;
 use drive_text::Run;
 use meter_model::Acts;
-use outside::{Board, Failed, Files, STORE_SIZE};
+use outside::{Failed, Files, Printer, STORE_SIZE};
 use std::sync::ledger::Ledger;
 use taxi_units::Steps;
 
 /// Reads the drive of a word, piece by piece, and carries out the events of each piece before it reads the next one.
 /// The answer is why no more of the drive is read. At most 64 steps an event.
-pub(crate) fn carry_drive<C: Carrier<B, L>, F: Files, B: Board<STORE_SIZE, L>, L: Ledger>(
+pub(crate) fn carry_drive<C: Carrier<B, L>, F: Files, B: Printer<STORE_SIZE, L>, L: Ledger>(
     meter: &mut C,
     by: &SealedTables<'_>,
     files: &mut F,
@@ -60,7 +60,7 @@ pub(crate) fn carry_drive<C: Carrier<B, L>, F: Files, B: Board<STORE_SIZE, L>, L
 /// Reads at most one piece of a drive, and carries out the events of all bytes that were taken so far, with those of
 /// this piece. `None` if more may follow. If it stops for another reason than a bad line, it took no bytes, so no piece
 /// is read behind another. `runs` and `acts` are lists to work with.
-fn carry_piece<C: Carrier<B, L>, F: Files, B: Board<STORE_SIZE, L>, L: Ledger>(
+fn carry_piece<C: Carrier<B, L>, F: Files, B: Printer<STORE_SIZE, L>, L: Ledger>(
     meter: &mut C,
     by: &SealedTables<'_>,
     source: &mut Source,
@@ -103,7 +103,7 @@ fn carry_piece<C: Carrier<B, L>, F: Files, B: Board<STORE_SIZE, L>, L: Ledger>(
 
 /// Carries out the events of the bytes that are ahead of a source, of which there is at least one. `None` if all lines
 /// are good; else the first bad line among them, behind the events before it.
-fn carry_ahead<C: Carrier<B, L>, B: Board<STORE_SIZE, L>, L: Ledger>(
+fn carry_ahead<C: Carrier<B, L>, B: Printer<STORE_SIZE, L>, L: Ledger>(
     meter: &mut C,
     by: &SealedTables<'_>,
     source: &mut Source,

@@ -10,7 +10,7 @@ use crate::printing::{print_display, print_refusal};
 use crate::supply::supply_at;
 use meter_model::{Act, Acts};
 use meter_states::Core;
-use outside::{Board, Failed, STORE_SIZE};
+use outside::{Failed, Printer, STORE_SIZE};
 use seal_record::Seal;
 use std::sync::ledger::Ledger;
 use tariff_compile::Tables;
@@ -19,7 +19,7 @@ use totals_record::{Change, Durable};
 
 /// Carries out an act: it prints displays and refusals, and commits into the durable state.
 #[inline(never)]
-fn perform<B: Board<STORE_SIZE, L>, L: Ledger>(
+fn perform<B: Printer<STORE_SIZE, L>, L: Ledger>(
     durable: &mut Durable,
     act: &Act,
     board: &mut B,
@@ -31,7 +31,7 @@ fn perform<B: Board<STORE_SIZE, L>, L: Ledger>(
     ensures begun { B.tells_text → Begins (B.printed board.old) (B.printed board.new) (shown_text act.now) }
     ensures cause { HasCause (B.faults board.old) (B.faults board.new) result }
     ensures steps { steps.new ≤ steps.old + 1 }
-    ensures store { KeepsStore B.Board board.old board.new }
+    ensures store { KeepsStore B.Printer board.old board.new }
 {
     match act {
         Act::Show(display) => print_display(display, board, steps),
@@ -49,7 +49,7 @@ fn perform<B: Board<STORE_SIZE, L>, L: Ledger>(
 }
 
 /// Carries out acts, one after the other.
-fn perform_all<B: Board<STORE_SIZE, L>, L: Ledger>(
+fn perform_all<B: Printer<STORE_SIZE, L>, L: Ledger>(
     durable: &mut Durable,
     acts: &[Act],
     board: &mut B,
@@ -61,7 +61,7 @@ fn perform_all<B: Board<STORE_SIZE, L>, L: Ledger>(
     ensures begun { B.tells_text → Begins (B.printed board.old) (B.printed board.new) (shown_texts acts.now) }
     ensures cause { HasCause (B.faults board.old) (B.faults board.new) result }
     ensures steps { steps.new ≤ steps.old + length acts.now }
-    ensures store { KeepsStore B.Board board.old board.new }
+    ensures store { KeepsStore B.Printer board.old board.new }
 {
     for act in acts {
         perform(durable, act, board, steps)?;
@@ -128,7 +128,7 @@ impl DryMeter {
     /// `Failed` only if the board's count of faults rose. Then a beginning of what the event shows was printed, and the
     /// meter is of no further use.
     #[inline(always)]
-    pub fn carry_event<B: Board<STORE_SIZE, L>, L: Ledger>(
+    pub fn carry_event<B: Printer<STORE_SIZE, L>, L: Ledger>(
         &mut self,
         tables: &Tables,
         seal: &Seal,
@@ -140,9 +140,9 @@ impl DryMeter {
         requires ready { IsMeterReady tables.now seal.now self.old.core self.old.durable }
         requires timely { IsTimely event }
         ensures ready { OnOk result (IsMeterReady tables.now seal.now self.new.core self.new.durable) }
-        ensures carried { OnOk result (CarriesEvents B.Board tables.now seal.now self.old board.old (event ∷ [])
+        ensures carried { OnOk result (CarriesEvents B.Printer tables.now seal.now self.old board.old (event ∷ [])
             self.new board.new) }
-        ensures broke_off { OnErr result (BreaksOff B.Board tables.now seal.now self.old board.old (event ∷ [])
+        ensures broke_off { OnErr result (BreaksOff B.Printer tables.now seal.now self.old board.old (event ∷ [])
             board.new) }
         ensures cause { HasCause (B.faults board.old) (B.faults board.new) result }
         ensures steps { steps.new ≤ steps.old + 64 }
@@ -154,15 +154,15 @@ impl DryMeter {
     }
 }
 
-impl<B: Board<STORE_SIZE, L>, L: Ledger> Carrier<B, L> for DryMeter {
+impl<B: Printer<STORE_SIZE, L>, L: Ledger> Carrier<B, L> for DryMeter {
     ghost use Rattle.meter_run.specs.Dry.{BreaksOff, CarriesEvents, IsMeterReady};
     ghost use Rattle.meter_run.specs.DryLaws.{breaks_later, breaks_sooner, carries_none, carries_then};
 
     ghost ready = { λ r meter board. IsMeterReady r.tables.now r.seal.now meter.core meter.durable };
 
-    ghost carried = { λ r x a events y b. CarriesEvents B.Board r.tables.now r.seal.now x a events y b };
+    ghost carried = { λ r x a events y b. CarriesEvents B.Printer r.tables.now r.seal.now x a events y b };
 
-    ghost broke_off = { λ r x a events b. BreaksOff B.Board r.tables.now r.seal.now x a events b };
+    ghost broke_off = { λ r x a events b. BreaksOff B.Printer r.tables.now r.seal.now x a events b };
 
     ghost nothing = { λ r x a ready. carries_none _ r.tables.now r.seal.now x a };
 

@@ -25,7 +25,7 @@ pub use cut_laws::{
 };
 pub use display_laws::displays_are_shown_where_their_texts_differ;
 pub use dry::DryMeter;
-pub use dry_drive::dry_run;
+pub use dry_drive::{dry_run, print_drive};
 pub use fault::RunFault;
 pub use source::{Source, Stop};
 pub use store_drive::run_events;

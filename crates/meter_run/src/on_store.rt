@@ -27,12 +27,12 @@ fn resume<B: Board<STORE_SIZE, L>, L: Ledger>(
     board: &mut B,
     steps: &mut Steps<L>,
 ) -> Result<(), Failed>
-    requires ready { IsMeterReadyOn B.Board tables.now seal.now meter.old board.old }
+    requires ready { IsMeterReadyOn B.Printer tables.now seal.now meter.old board.old }
     requires off { meter.old.core.state.operating ≡ Off }
     requires range { IsDurable found.durable }
-    requires agrees { Agrees B.Board tables.now found board.old }
+    requires agrees { Agrees B.Printer tables.now found board.old }
     requires second { IsSecond second }
-    ensures attempts { Attempts B.Board tables.now seal.now (λ s m. step s (Up second) m)
+    ensures attempts { Attempts B.Printer tables.now seal.now (λ s m. step s (Up second) m)
         (record { core = meter.old.core; known = Some found }) board.old result meter.new board.new }
     ensures steps { steps.new ≤ steps.old + 21 }
 {
@@ -55,10 +55,10 @@ fn power_up<B: Board<STORE_SIZE, L>, L: Ledger>(
     board: &mut B,
     steps: &mut Steps<L>,
 ) -> Result<(), Failed>
-    requires ready { IsMeterReadyOn B.Board tables.now seal.now meter.old board.old }
+    requires ready { IsMeterReadyOn B.Printer tables.now seal.now meter.old board.old }
     requires off { meter.old.core.state.operating ≡ Off }
     requires second { IsSecond second }
-    ensures attempts { Attempts B.Board tables.now seal.now (λ s m. step s (Up second) m) meter.old board.old result
+    ensures attempts { Attempts B.Printer tables.now seal.now (λ s m. step s (Up second) m) meter.old board.old result
         meter.new board.new }
     ensures steps { steps.new ≤ steps.old + 40 }
 {
@@ -86,9 +86,9 @@ impl StoreMeter {
         board: &mut B,
         steps: &mut Steps<L>,
     ) -> Result<(), Failed>
-        requires ready { IsMeterReadyOn B.Board tables.now seal.now self.old board.old }
+        requires ready { IsMeterReadyOn B.Printer tables.now seal.now self.old board.old }
         requires timely { IsTimely event }
-        ensures attempts { Attempts B.Board tables.now seal.now (λ s m. step s event m) self.old board.old result
+        ensures attempts { Attempts B.Printer tables.now seal.now (λ s m. step s event m) self.old board.old result
             self.new board.new }
         ensures supply { StaysOff self.old.core.state (event ∷ []) self.new.core.state }
         ensures steps { steps.new ≤ steps.old + 64 }
@@ -111,11 +111,11 @@ impl<B: Board<STORE_SIZE, L>, L: Ledger> Carrier<B, L> for StoreMeter {
     ghost use Rattle.meter_run.specs.{Common.{run}, OnStore.{CarriesEvents, IsMeterReadyOn, StopsAmid}};
     ghost use Rattle.meter_run.specs.{StoreLaws.{amid_sooner}, SupplyLaws.{carried_later, carried_none, carried_then}};
 
-    ghost ready = { λ r meter board. IsMeterReadyOn B.Board r.tables.now r.seal.now meter board };
+    ghost ready = { λ r meter board. IsMeterReadyOn B.Printer r.tables.now r.seal.now meter board };
 
-    ghost carried = { λ r x a events y b. CarriesEvents B.Board r.tables.now r.seal.now events x a y b };
+    ghost carried = { λ r x a events y b. CarriesEvents B.Printer r.tables.now r.seal.now events x a y b };
 
-    ghost broke_off = { λ r x a events b. StopsAmid B.Board r.tables.now r.seal.now (λ s m. run s events m) x a b };
+    ghost broke_off = { λ r x a events b. StopsAmid B.Printer r.tables.now r.seal.now (λ s m. run s events m) x a b };
 
     ghost nothing = { λ r x a ready. carried_none (record {
       tells_image = B.tells_image;

@@ -19,16 +19,16 @@ pub(crate) fn read_store<B: Board<STORE_SIZE, L>, L: Ledger>(
     board: &mut B,
     steps: &mut Steps<L>,
 ) -> Result<Option<Known>, Failed>
-    ensures agrees { IfOk result (λ found. ForSome found (λ known. Agrees B.Board tables.now known board.new)) }
+    ensures agrees { IfOk result (λ found. ForSome found (λ known. Agrees B.Printer tables.now known board.new)) }
     ensures range { IfOk result (λ found. ForSome found (λ known. IsDurable known.durable)) }
-    ensures finds { B.tells_image → (place : Place) (durable : Durable) → HoldsState B.Board place board.old durable
+    ensures finds { B.tells_image → (place : Place) (durable : Durable) → HoldsState B.Printer place board.old durable
         → ForSome durable.hold (Fits tables.now)
         → IfOk result (λ found. (known : Known) × ((found ≡ Some known) × (known.durable ≡ durable))) }
     ensures points { B.tells_image → (seal : Seal) (place : Place) (durable : Durable)
-        → HoldsState B.Board place board.old durable → ForSome durable.hold (Fits tables.now)
-        → GoesBy B.Board tables.now seal board.old board.new durable [] }
+        → HoldsState B.Printer place board.old durable → ForSome durable.hold (Fits tables.now)
+        → GoesBy B.Printer tables.now seal board.old board.new durable [] }
     ensures text { B.printed board.new ≡ B.printed board.old }
-    ensures beside { B.tells_image → WritesTotals B.Board board.old board.new }
+    ensures beside { B.tells_image → WritesTotals B.Printer board.old board.new }
     ensures cause { HasCause (B.faults board.old) (B.faults board.new) result }
     ensures steps { steps.new ≤ steps.old + 19 }
 {

@@ -5,12 +5,12 @@ ghost use Rattle.meter_run.specs.Common.{HasCause, IsRunInRange, interval_events
 use crate::carrier::{Carrier, SealedTables};
 use drive_text::Run;
 use meter_model::Acts;
-use outside::{Board, Failed, STORE_SIZE};
+use outside::{Failed, Printer, STORE_SIZE};
 use std::sync::ledger::Ledger;
 use taxi_units::{Event, Steps};
 
 /// Carries out one measuring interval: its pulses, if it has any, and its end.
-fn carry_interval<C: Carrier<B, L>, B: Board<STORE_SIZE, L>, L: Ledger>(
+fn carry_interval<C: Carrier<B, L>, B: Printer<STORE_SIZE, L>, L: Ledger>(
     meter: &mut C,
     by: &SealedTables<'_>,
     pulses: u32,
@@ -33,7 +33,7 @@ fn carry_interval<C: Carrier<B, L>, B: Board<STORE_SIZE, L>, L: Ledger>(
 }
 
 /// Carries out a row of equal measuring intervals: one, and then as many as go at once, again and again.
-fn carry_intervals<C: Carrier<B, L>, B: Board<STORE_SIZE, L>, L: Ledger>(
+fn carry_intervals<C: Carrier<B, L>, B: Printer<STORE_SIZE, L>, L: Ledger>(
     meter: &mut C,
     by: &SealedTables<'_>,
     pulses: u32,
@@ -61,7 +61,7 @@ fn carry_intervals<C: Carrier<B, L>, B: Board<STORE_SIZE, L>, L: Ledger>(
 }
 
 /// Carries out a run.
-fn carry_run<C: Carrier<B, L>, B: Board<STORE_SIZE, L>, L: Ledger>(
+fn carry_run<C: Carrier<B, L>, B: Printer<STORE_SIZE, L>, L: Ledger>(
     meter: &mut C,
     by: &SealedTables<'_>,
     run: Run,
@@ -86,7 +86,7 @@ fn carry_run<C: Carrier<B, L>, B: Board<STORE_SIZE, L>, L: Ledger>(
 }
 
 /// Carries out runs, one after the other.
-pub(crate) fn carry_runs<C: Carrier<B, L>, B: Board<STORE_SIZE, L>, L: Ledger>(
+pub(crate) fn carry_runs<C: Carrier<B, L>, B: Printer<STORE_SIZE, L>, L: Ledger>(
     meter: &mut C,
     by: &SealedTables<'_>,
     runs: &[Run],

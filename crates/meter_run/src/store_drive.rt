@@ -45,11 +45,11 @@ pub fn run_events<F: Files, B: Board<STORE_SIZE, L>, L: Ledger>(
 ) -> Result<(), RunFault>
     requires constant { tables.now.constant ≡ seal.now.params.constant }
     requires seal { IsSeal seal.now }
-    ensures ends { F.tells → EndsRun B.Board tables.now seal.now board.old board.new
+    ensures ends { F.tells → EndsRun B.Printer tables.now seal.now board.old board.new
         (F.rest files.old word) (F.rest files.new word) result }
-    ensures cuts { F.tells → LeavesPoints B.Board tables.now seal.now board.old board.new
+    ensures cuts { F.tells → LeavesPoints B.Printer tables.now seal.now board.old board.new
         (F.rest files.old word) (F.rest files.new word) }
-    ensures beside { B.tells_image → WritesTotals B.Board board.old board.new }
+    ensures beside { B.tells_image → WritesTotals B.Printer board.old board.new }
     ensures complete { F.tells → drive_end (F.rest files.old word) ≡ Whole
         → ¬ Rose (F.faults files.old word) (F.faults files.new word)
         → ¬ Rose (B.faults board.old) (B.faults board.new) → IsOk result }
@@ -80,10 +80,10 @@ fn drop_at_end<B: Board<STORE_SIZE, L>, L: Ledger>(
     board: &mut B,
     steps: &mut Steps<L>,
 ) -> Result<(), Failed>
-    requires ready { IsMeterReadyOn B.Board tables.now seal.now meter.old board.old }
-    ensures carried { OnOk result (CarriesOut B.Board tables.now seal.now ended
+    requires ready { IsMeterReadyOn B.Printer tables.now seal.now meter.old board.old }
+    ensures carried { OnOk result (CarriesOut B.Printer tables.now seal.now ended
         meter.old board.old meter.new board.new) }
-    ensures stopped { StopsAmid B.Board tables.now seal.now ended meter.old board.old board.new }
+    ensures stopped { StopsAmid B.Printer tables.now seal.now ended meter.old board.old board.new }
     ensures cause { HasCause (B.faults board.old) (B.faults board.new) result }
     ensures steps { steps.new ≤ steps.old + 64 }
     ensures idle { meter.old.core.state.operating ≡ Off → steps.new ≡ steps.old }

@@ -23,17 +23,17 @@ fn store<B: Board<STORE_SIZE, L>, L: Ledger>(
     steps: &mut Steps<L>,
 ) -> Result<(), Failed>
     requires slot { known.old.place.slot ≤ 1 }
-    requires settled { B.tells_image → HoldsState B.Board known.old.place board.old known.old.durable }
+    requires settled { B.tells_image → HoldsState B.Printer known.old.place board.old known.old.durable }
     requires range { IsDurable (after known.old.durable change.now) }
     ensures durable { OnOk result (known.new.durable ≡ after known.old.durable change.now) }
     ensures agrees { (tables : TableParts) → ForSome (after known.old.durable change.now).hold (Fits tables)
-        → OnOk result (Agrees B.Board tables known.new board.new) }
+        → OnOk result (Agrees B.Printer tables known.new board.new) }
     ensures points { B.tells_image → (tables : TableParts) (seal : Seal) (deed : Deed)
         → ForSome known.old.durable.hold (Fits tables) → ForSome (after known.old.durable change.now).hold (Fits tables)
         → after_deed known.old.durable deed ≡ after known.old.durable change.now
-        → GoesBy B.Board tables seal board.old board.new known.old.durable (deed ∷ []) }
+        → GoesBy B.Printer tables seal board.old board.new known.old.durable (deed ∷ []) }
     ensures text { B.printed board.new ≡ B.printed board.old }
-    ensures beside { B.tells_image → WritesTotals B.Board board.old board.new }
+    ensures beside { B.tells_image → WritesTotals B.Printer board.old board.new }
     ensures cause { HasCause (B.faults board.old) (B.faults board.new) result }
     ensures steps { steps.new ≤ steps.old + 6 }
 {
@@ -57,16 +57,16 @@ fn do_act<B: Board<STORE_SIZE, L>, L: Ledger>(
     steps: &mut Steps<L>,
 ) -> Result<(), Failed>
     requires act { IsFor known.old.durable act.now }
-    requires may { (tables : TableParts) × MayDo B.Board tables known.old board.old (act.now ∷ []) }
+    requires may { (tables : TableParts) × MayDo B.Printer tables known.old board.old (act.now ∷ []) }
     requires seal { IsSeal seal.now }
     ensures durable { OnOk result (known.new.durable ≡ after_act known.old.durable act.now) }
-    ensures agrees { (tables : TableParts) → MayDo B.Board tables known.old board.old (act.now ∷ [])
-        → OnOk result (Agrees B.Board tables known.new board.new) }
+    ensures agrees { (tables : TableParts) → MayDo B.Printer tables known.old board.old (act.now ∷ [])
+        → OnOk result (Agrees B.Printer tables known.new board.new) }
     ensures whole { B.tells_text → OnOk result
         (B.printed board.new ≡ B.printed board.old ++ act_text seal.now act.now) }
-    ensures points { B.tells_image → (tables : TableParts) → MayDo B.Board tables known.old board.old (act.now ∷ [])
-        → GoesBy B.Board tables seal.now board.old board.new known.old.durable (Does act.now ∷ []) }
-    ensures beside { B.tells_image → WritesTotals B.Board board.old board.new }
+    ensures points { B.tells_image → (tables : TableParts) → MayDo B.Printer tables known.old board.old (act.now ∷ [])
+        → GoesBy B.Printer tables seal.now board.old board.new known.old.durable (Does act.now ∷ []) }
+    ensures beside { B.tells_image → WritesTotals B.Printer board.old board.new }
     ensures cause { HasCause (B.faults board.old) (B.faults board.new) result }
     ensures steps { steps.new ≤ steps.old + 1 + 5 * commits_in (act.now ∷ []) }
 {
@@ -89,16 +89,16 @@ pub(crate) fn do_acts<B: Board<STORE_SIZE, L>, L: Ledger>(
     steps: &mut Steps<L>,
 ) -> Result<(), Failed>
     requires acts { AreFor known.old.durable acts.now }
-    requires may { (tables : TableParts) × MayDo B.Board tables known.old board.old acts.now }
+    requires may { (tables : TableParts) × MayDo B.Printer tables known.old board.old acts.now }
     requires seal { IsSeal seal.now }
     ensures durable { OnOk result (known.new.durable ≡ after_acts known.old.durable acts.now) }
-    ensures agrees { (tables : TableParts) → MayDo B.Board tables known.old board.old acts.now
-        → OnOk result (Agrees B.Board tables known.new board.new) }
+    ensures agrees { (tables : TableParts) → MayDo B.Printer tables known.old board.old acts.now
+        → OnOk result (Agrees B.Printer tables known.new board.new) }
     ensures whole { B.tells_text → OnOk result
         (B.printed board.new ≡ B.printed board.old ++ texts seal.now (deeds_of acts.now)) }
-    ensures points { B.tells_image → (tables : TableParts) → MayDo B.Board tables known.old board.old acts.now
-        → GoesBy B.Board tables seal.now board.old board.new known.old.durable (deeds_of acts.now) }
-    ensures beside { B.tells_image → WritesTotals B.Board board.old board.new }
+    ensures points { B.tells_image → (tables : TableParts) → MayDo B.Printer tables known.old board.old acts.now
+        → GoesBy B.Printer tables seal.now board.old board.new known.old.durable (deeds_of acts.now) }
+    ensures beside { B.tells_image → WritesTotals B.Printer board.old board.new }
     ensures cause { HasCause (B.faults board.old) (B.faults board.new) result }
     ensures steps { steps.new ≤ steps.old + length acts.now + 5 * commits_in acts.now }
 {

@@ -37,14 +37,14 @@ pub fn commit<B: Board<STORE_SIZE, L>, L: Ledger>(
 ) -> Result<(Durable, Place), DeviceFailed>
     requires range { IsDurable (after durable.now commit.now) }
     requires slot { place.slot ≤ 1 }
-    requires settled { B.tells_image → HoldsState B.Board place board.old durable.now }
+    requires settled { B.tells_image → HoldsState B.Printer place board.old durable.now }
     ensures any_moment { B.tells_image
-        → LeavesEither B.Board place durable.now (after durable.now commit.now) board.old board.new }
-    ensures settled { B.tells_image → IfOk result (λ answer. HoldsState B.Board answer.1 board.new answer.0) }
+        → LeavesEither B.Printer place durable.now (after durable.now commit.now) board.old board.new }
+    ensures settled { B.tells_image → IfOk result (λ answer. HoldsState B.Printer answer.1 board.new answer.0) }
     ensures state { IfOk result (λ answer. answer.0 ≡ after durable.now commit.now) }
     ensures place { IfOk result (λ answer. answer.1 ≡ place_after place) }
     ensures slot_in { IfOk result (λ answer. answer.1.slot ≤ 1) }
-    ensures beside { WritesIn B.Board (written_at place) slot_size board.old board.new }
+    ensures beside { WritesIn B.Printer (written_at place) slot_size board.old board.new }
     ensures cause { HasCause (B.faults board.old) (B.faults board.new) result }
     ensures steps { steps.new ≤ steps.old + 6 }
 {

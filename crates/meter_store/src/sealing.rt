@@ -36,12 +36,12 @@ pub fn place_seal<B: Board<STORE_SIZE, L>, L: Ledger>(
     requires valid { IsSeal seal.now }
     requires number { seal.now.seal_number ≡ next_number (found_number found) }
     requires slot { ForSome found (λ latest. latest.0.slot ≤ 1) }
-    requires totals { B.tells_image → FoundTotals B.Board board.old totals }
-    requires found { B.tells_image → (old : Option Seal) × FoundSeal B.Board board.old found old }
-    ensures any_moment { B.tells_image → (old : Option Seal) → FoundSeal B.Board board.old found old
-        → LeavesSealing B.Board (record { totals = totals; old = old; new = seal.now }) board.old board.new }
-    ensures sealed { B.tells_image → OnOk result (HoldsSealing B.Board totals seal.now board.new) }
-    ensures beside { WritesIn B.Board (first_written totals) (places_written totals) board.old board.new }
+    requires totals { B.tells_image → FoundTotals B.Printer board.old totals }
+    requires found { B.tells_image → (old : Option Seal) × FoundSeal B.Printer board.old found old }
+    ensures any_moment { B.tells_image → (old : Option Seal) → FoundSeal B.Printer board.old found old
+        → LeavesSealing B.Printer (record { totals = totals; old = old; new = seal.now }) board.old board.new }
+    ensures sealed { B.tells_image → OnOk result (HoldsSealing B.Printer totals seal.now board.new) }
+    ensures beside { WritesIn B.Printer (first_written totals) (places_written totals) board.old board.new }
     ensures cause { HasCause (B.faults board.old) (B.faults board.new) result }
     ensures steps { steps.new ≤ steps.old + 10 }
 {
@@ -63,10 +63,10 @@ fn put_totals<B: Board<STORE_SIZE, L>, L: Ledger>(
     board: &mut B,
     steps: &mut Steps<L>,
 ) -> Result<Place, DeviceFailed>
-    requires { B.tells_image → FoundTotals B.Board board.old None }
-    ensures any_moment { B.tells_image → LeavesThroughout B.Board 0 pair_size (StillHas None) board.old board.new }
-    ensures settled { B.tells_image → IfOk result (λ place. HoldsState B.Board place board.new first_state) }
-    ensures beside { WritesIn B.Board 0 pair_size board.old board.new }
+    requires { B.tells_image → FoundTotals B.Printer board.old None }
+    ensures any_moment { B.tells_image → LeavesThroughout B.Printer 0 pair_size (StillHas None) board.old board.new }
+    ensures settled { B.tells_image → IfOk result (λ place. HoldsState B.Printer place board.new first_state) }
+    ensures beside { WritesIn B.Printer 0 pair_size board.old board.new }
     ensures cause { HasCause (B.faults board.old) (B.faults board.new) result }
     ensures steps { steps.new ≤ steps.old + 4 }
 {
@@ -84,11 +84,11 @@ fn put_seal<B: Board<STORE_SIZE, L>, L: Ledger>(
     requires valid { IsSeal seal.now }
     requires number { seal.now.seal_number ≡ next_number (found_number found) }
     requires slot { ForSome found (λ latest. latest.0.slot ≤ 1) }
-    requires found { B.tells_image → (old : Option Seal) × FoundSeal B.Board board.old found old }
-    ensures any_moment { B.tells_image → (old : Option Seal) → FoundSeal B.Board board.old found old
-        → LeavesThroughout B.Board seals_at pair_size (HasEitherSeal old seal.now) board.old board.new }
-    ensures settled { B.tells_image → IfOk result (λ place. HoldsSeal B.Board place board.new seal.now) }
-    ensures beside { WritesIn B.Board seals_at pair_size board.old board.new }
+    requires found { B.tells_image → (old : Option Seal) × FoundSeal B.Printer board.old found old }
+    ensures any_moment { B.tells_image → (old : Option Seal) → FoundSeal B.Printer board.old found old
+        → LeavesThroughout B.Printer seals_at pair_size (HasEitherSeal old seal.now) board.old board.new }
+    ensures settled { B.tells_image → IfOk result (λ place. HoldsSeal B.Printer place board.new seal.now) }
+    ensures beside { WritesIn B.Printer seals_at pair_size board.old board.new }
     ensures cause { HasCause (B.faults board.old) (B.faults board.new) result }
     ensures steps { steps.new ≤ steps.old + 6 }
 {

@@ -9,12 +9,12 @@ use std::sync::ledger::Ledger;
 /// What scans of both pairs found is what a sealing asks for. It stays so on a board with the same image of which no
 /// more is in flight, as after another scan.
 pub fn scans_find_what_a_sealing_asks_for<B: Board<STORE_SIZE, L>, L: Ledger>()
-    ensures totals { (board : B) (found : Found Durable) → ScannedTotals B.Board board found
-        → FoundTotals B.Board board (totals_found found) }
-    ensures seal { (board : B) (found : Found Seal) → ScannedSeal B.Board board found
-        → FoundSeal B.Board board (seal_found found) (old_seal found) }
-    ensures totals_stay { (board after : B) (found : Found Durable) → ScannedTotals B.Board board found
+    ensures totals { (board : B) (found : Found Durable) → ScannedTotals B.Printer board found
+        → FoundTotals B.Printer board (totals_found found) }
+    ensures seal { (board : B) (found : Found Seal) → ScannedSeal B.Printer board found
+        → FoundSeal B.Printer board (seal_found found) (old_seal found) }
+    ensures totals_stay { (board after : B) (found : Found Durable) → ScannedTotals B.Printer board found
         → B.image after ≡ B.image board
         → ((place : ℕ) → B.in_flight after place → B.in_flight board place)
-        → ScannedTotals B.Board after found }
+        → ScannedTotals B.Printer after found }
 {}

@@ -1,10 +1,10 @@
 -- The laws that the public empty functions state.
 use Rattle.std.proofs.Common.{[], ℕ, ◌++◌, ◌+◌, ◌<◌, ◌∙◌, ◌∷◌, ◌≡◌, List, ap, append_assoc, arith, drop, get_or, inl}
 use Rattle.std.proofs.Common.{inr, length, length-append, length-drop, length-take, refl, subst, suc, sym, take, zero}
-use Rattle.std.proofs.{Common.{⊎_elim}, Math.Seq.{take-append-add}}
+use Rattle.{std.proofs.{Common.{⊎_elim}, Math.Seq.{take-append-add}}, outside.specs.Common.{AreBytes}}
 use Rattle.std.proofs.lemmas.List.{append-nil, ext_get_or, get_or-drop, get_or-take, take-append-le, take_all}
-use Rattle.outside.specs.{Common.{AreBytes}, Disk.{IsWithin, MayLeave, MayLeaveAmid, SameBut}, PrintedText.{Begins}}
-use Rattle.outside.specs.{Runs.{KeepsStore, LeavesNow, LeavesOnly, MayHold, PrintTakes}, declared.board.Board.{Ghosts}}
+use Rattle.outside.specs.{Disk.{IsWithin, MayLeave, MayLeaveAmid, SameBut}, declared.printer.Printer.{Ghosts}}
+use Rattle.outside.specs.{PrintedText.{Begins}, Runs.{KeepsStore, LeavesNow, LeavesOnly, MayHold, PrintTakes}}
 pub use Rattle.outside.proofs.Rises.{cause_behind, left_by_ok, may_rise_behind, may_rise_more, may_rise_not, on_failed}
 pub use Rattle.outside.proofs.Rises.{rises_behind, rises_by, rises_not, rose_behind}
 

@@ -1,6 +1,6 @@
 -- Rules: what a run of calls leaves of a board, over the meanings of the board as a whole.
 use Rattle.std.specs.Prelude.{ℕ, ◌≡◌, ◌≤◌, ◌⊎◌, List}
-use Rattle.outside.specs.{Common.{AreBytes}, Disk.{MayLeave, PieceTakes, SameBut}, declared.board.Board.{Ghosts}}
+use Rattle.outside.specs.{Common.{AreBytes}, Disk.{MayLeave, PieceTakes, SameBut}, declared.printer.Printer.{Ghosts}}
 
 -- a store may hold an image after a cut if it is what a read gives but for any bytes at the places in flight
 pub record MayHold (image : List ℕ) (in_flight : ℕ → Type 0) (left_image : List ℕ) : Type 0 where

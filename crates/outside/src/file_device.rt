@@ -8,6 +8,7 @@ use crate::fault::Failed;
 use crate::file_store::FileStore;
 use crate::held_file::HeldFile;
 use crate::new_store::StoreNames;
+use crate::printer::Printer;
 use crate::store_file::Access;
 use std::alloc::Global;
 use std::io;
@@ -150,7 +151,7 @@ where
     }
 }
 
-impl<R: HostSystem + Print + Drop, const N: usize, L: Ledger> Board<N, L> for FileDevice<R, N>
+impl<R: HostSystem + Print + Drop, const N: usize, L: Ledger> Printer<N, L> for FileDevice<R, N>
 where
     R::File: HeldFile,
 {
@@ -176,6 +177,21 @@ where
 
     ghost only_now = { λ _ _ _ left. absurd left };
 
+    fn print(&mut self, bytes: &[u8], steps: &mut Steps<L>) -> Result<(), Failed>
+        ensures cause { HasCause self.old.failed self.new.failed result }
+        ensures stays { StaysLost self.old.lost self.new.lost result }
+        ensures step { steps.new ≡ steps.old + 1 }
+    {
+        steps.spend();
+        let answer = self.attempt_print(bytes);
+        counted(&mut self.failures, answer)
+    }
+}
+
+impl<R: HostSystem + Print + Drop, const N: usize, L: Ledger> Board<N, L> for FileDevice<R, N>
+where
+    R::File: HeldFile,
+{
     fn read(&mut self, at: u32, buf: &mut [u8], steps: &mut Steps<L>) -> Result<(), Failed>
         ensures cause { HasCause self.old.failed self.new.failed result }
         ensures stays { StaysLost self.old.lost self.new.lost result }
@@ -204,16 +220,6 @@ where
     {
         steps.spend();
         let answer = self.store.sync(&self.rt, self.alloc);
-        counted(&mut self.failures, answer)
-    }
-
-    fn print(&mut self, bytes: &[u8], steps: &mut Steps<L>) -> Result<(), Failed>
-        ensures cause { HasCause self.old.failed self.new.failed result }
-        ensures stays { StaysLost self.old.lost self.new.lost result }
-        ensures step { steps.new ≡ steps.old + 1 }
-    {
-        steps.spend();
-        let answer = self.attempt_print(bytes);
         counted(&mut self.failures, answer)
     }
 }

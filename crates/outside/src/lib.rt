@@ -15,6 +15,7 @@ mod image;
 mod list_laws;
 mod named_file;
 mod new_store;
+mod printer;
 mod program;
 mod quiet_board;
 mod retried;
@@ -31,6 +32,7 @@ pub use files::Files;
 pub use host_files::HostFiles;
 pub use list_laws::{Places, a_slice_of_bytes, a_slice_that_is_not_touched, what_begins_a_text};
 pub use new_store::StoreNames;
+pub use printer::Printer;
 pub use program::program_words;
 pub use quiet_board::QuietBoard;
 pub use run_laws::{

@@ -1,7 +1,7 @@
 -- Events that a meter carries out, one behind the other.
 use Rattle.std.proofs.Common.{[], ℕ, ◌++◌, ◌+◌, ◌<◌, ◌∙◌, ◌∷◌, ◌≡◌, Err, IsErr, List, Ok, Result, add-one, ap}
 use Rattle.std.proofs.{Common.{append_assoc, false, get_or, length, refl, subst, sym, take, true}, Math.Seq.{take-suc}}
-use Rattle.outside.{specs.{Faults.{HasCause}, declared.board.Board.{Ghosts}}, proofs.Laws.{rose_behind}}
+use Rattle.outside.{specs.{Faults.{HasCause}, declared.printer.Printer.{Ghosts}}, proofs.Laws.{rose_behind}}
 use Rattle.{seal_record.specs.declared.seal.Seal.{Seal}, tariff_compile.specs.Tables.{TableParts}}
 use Rattle.{meter_model.specs.Meter.{Meter}, meter_run.specs.{Dry.{CarriesEvents}, declared.dry.DryMeter.{DryMeter}}}
 use Rattle.meter_run.specs.{BetweenEvents.{StandsWith}, RunLaws.{run_next, run_texts}}

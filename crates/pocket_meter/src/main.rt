@@ -10,7 +10,7 @@ ghost use Rattle.pocket_meter.specs.Lines as spec;
 use arrayvec::ArrayVec;
 use meter_model::Acts;
 use meter_run::DryMeter;
-use outside::{Board, Failed, STORE_SIZE, program_words};
+use outside::{Failed, Printer, STORE_SIZE, program_words};
 use seal_record::{Seal, read_params};
 use std::alloc::Global;
 use std::io::Write;
@@ -23,14 +23,14 @@ use tariff_compile::{Tables, compile};
 use tariff_syntax::parse;
 use taxi_units::{Event, FIRST_SECOND, Key, LAST_SECOND, Steps, is_word, number_in, word};
 
-/// The board, without a store: what the display showed, in room for 4,096 bytes, and how often a call failed.
+/// The printer: what the display showed, in room for 4,096 bytes, and how often a call failed.
 #[derive(Drop, Default)]
 struct Panel {
     text: ArrayVec<u8, 4096>,
     faults: u64,
 }
 
-impl<L: Ledger> Board<STORE_SIZE, L> for Panel {
+impl<L: Ledger> Printer<STORE_SIZE, L> for Panel {
     ghost tells_image = { ⊥ };
 
     ghost tells_text = { Unit {0} };
@@ -52,23 +52,6 @@ impl<L: Ledger> Board<STORE_SIZE, L> for Panel {
     ghost counts_now = { λ _ _ _ _ told _ _ _. absurd told };
 
     ghost only_now = { λ _ _ _ left. absurd left };
-
-    fn read(&mut self, _at: u32, _buf: &mut [u8], steps: &mut Steps<L>) -> Result<(), Failed> {
-        steps.spend();
-        self.faults = self.faults.saturating_add(1);
-        Err(Failed)
-    }
-
-    fn write_at(&mut self, _at: u32, _bytes: &[u8], steps: &mut Steps<L>) -> Result<(), Failed> {
-        steps.spend();
-        self.faults = self.faults.saturating_add(1);
-        Err(Failed)
-    }
-
-    fn sync(&mut self, steps: &mut Steps<L>) -> Result<(), Failed> {
-        steps.spend();
-        Ok(())
-    }
 
     #[tactic(auto, using(outside::proofs::Laws::begins_whole, outside::proofs::Laws::begins_not))]
     fn print(&mut self, bytes: &[u8], steps: &mut Steps<L>) -> Result<(), Failed> {

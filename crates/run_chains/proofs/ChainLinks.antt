@@ -1,9 +1,9 @@
 -- One run of a chain, from what holds of a call with the words of a run.
 use Rattle.std.proofs.Common.{[], ℕ, ◌++◌, ◌+◌, ◌-◌, ◌∙◌, ◌∷◌, ◌≡◌, ◌≢◌, ◌⊎◌, Err, List, None, Ok, Option, Result, Some}
 use Rattle.std.proofs.Common.{ap, arith, inl, inr, length, length-append, refl, subst, sym, take}
-use Rattle.{std.proofs.{Math.Seq.{take-append_seam}, lemmas.List.{append-nil}}, outside.specs.PrintedText.{Begins}}
-use Rattle.outside.specs.{Faults.{Rose}, Runs.{IsAtRest as NothingFlies}, declared.files.Files.{Ghosts as FileGhosts}}
-use Rattle.{outside.specs.declared.board.Board.{Ghosts}, slot_store.proofs.Laws.{one_body}}
+use Rattle.{std.proofs.{Math.Seq.{take-append_seam}, lemmas.List.{append-nil}}, outside.specs.Faults.{Rose}}
+use Rattle.outside.specs.{PrintedText.{Begins}, declared.{files.Files.{Ghosts as FileGhosts}, printer.Printer.{Ghosts}}}
+use Rattle.{outside.specs.Runs.{IsAtRest as NothingFlies}, slot_store.proofs.Laws.{one_body}}
 use Rattle.{totals_record.{specs.Reading.{reads}, proofs.Laws.{changes_add_up}}, call_ends.specs.Call.{IsEnd, MayTake}}
 use Rattle.{meter_store.specs.Stored.{state_number_of}, run_chains.specs.Common.{text_of, texts}}
 use Rattle.meter_run.proofs.Laws.{changes_joined, deeds_follow, the_number_tells_the_commits-beginning}

@@ -1,6 +1,6 @@
 -- Rules: what a run of the taximeter leaves of files and a board in memory.
 use Rattle.std.specs.Prelude.{ℕ, ◌≡◌}
-use Rattle.outside.specs.{Disk.{store_size}, declared.{board.Board.{Ghosts}, files.Files.{Ghosts as FileGhosts}}}
+use Rattle.outside.specs.{Disk.{store_size}, declared.{files.Files.{Ghosts as FileGhosts}, printer.Printer.{Ghosts}}}
 use Rattle.{memory_devices.specs.MemoryBoard.{Memory}, run_chains.specs.Common.{BoardState, FilesState, IsRun}}
 
 -- a run of the taximeter made with files and a board in memory left other files, the board in another state, and a

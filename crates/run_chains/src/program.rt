@@ -5,7 +5,7 @@ ghost use Rattle.run_chains.specs.Common.{IsRun, rest_of, row_of};
 
 use commands::taxi;
 use memory_devices::{MemoryBoard, MemoryFiles};
-use outside::{Board, Files, STORE_SIZE};
+use outside::{Files, Printer, STORE_SIZE};
 use std::alloc::Global;
 use std::sync::ledger::Ledger;
 use taxi_units::Steps;
@@ -30,7 +30,7 @@ pub trait Program<L: Ledger> {
     ) -> u8
         requires { row_of (map string_bytes words.now) ≡ Some Run }
         ensures ran { ran files.old board.old.state files.new board.new.state result }
-        ensures runs { IsRun ⟦<MemoryFiles as Files>⟧ ⟦<MemoryBoard as Board<STORE_SIZE, L>>⟧
+        ensures runs { IsRun ⟦<MemoryFiles as Files>⟧ ⟦<MemoryBoard as Printer<STORE_SIZE, L>>⟧
             files.old files.new board.old board.new result }
         ensures others { (word : ℕ) → word ≢ 1 → word ≢ 2 → rest_of files.new word ≡ rest_of files.old word };
 }
@@ -39,7 +39,7 @@ pub trait Program<L: Ledger> {
 pub struct Taximeter;
 
 impl<L: Ledger> Program<L> for Taximeter {
-    ghost ran = { IsRunInMemory ⟦<MemoryFiles as Files>⟧ ⟦<MemoryBoard as Board<STORE_SIZE, L>>⟧ };
+    ghost ran = { IsRunInMemory ⟦<MemoryFiles as Files>⟧ ⟦<MemoryBoard as Printer<STORE_SIZE, L>>⟧ };
 
     fn run(
         alloc: Global,

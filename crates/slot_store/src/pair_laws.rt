@@ -50,14 +50,14 @@ pub fn a_pair_that_is_not_touched_stays<T: Body>()
 /// A pair that is settled, or blank with nothing in flight, stays so on a board on which it has the same bytes and no
 /// more of it is in flight. A cut leaves what it stands for.
 pub fn a_settled_pair_stays<T: Body, B: Board<N, L>, L: Ledger, const N: usize>()
-    ensures settled { (at : ℕ) (place : Place) (body : T) (old new : B) → IsSettledOn T.Body B.Board at place old body
+    ensures settled { (at : ℕ) (place : Place) (body : T) (old new : B) → IsSettledOn T.Body B.Printer at place old body
         → IsSamePair at (B.image old) (B.image new) → FliesNoMore at (B.in_flight old) (B.in_flight new)
-        → IsSettledOn T.Body B.Board at place new body }
-    ensures ready { (pair : Pair) (latest : Option T) (old new : B) → IsReadyOn T.Body B.Board pair old latest
+        → IsSettledOn T.Body B.Printer at place new body }
+    ensures ready { (pair : Pair) (latest : Option T) (old new : B) → IsReadyOn T.Body B.Printer pair old latest
         → IsSamePair pair.at (B.image old) (B.image new) → FliesNoMore pair.at (B.in_flight old) (B.in_flight new)
-        → IsReadyOn T.Body B.Board pair new latest }
+        → IsReadyOn T.Body B.Printer pair new latest }
     ensures left { (pair : Pair) (latest : Option T) (board : B) (left_image : List ℕ)
-        → IsReadyOn T.Body B.Board pair board latest
+        → IsReadyOn T.Body B.Printer pair board latest
         → SameBut (B.in_flight board) (B.image board) left_image → Shows T.reads T.number_of pair.at left_image latest }
 {}
 
@@ -69,16 +69,16 @@ pub fn a_pair_apart_is_the_same<B: Board<N, L>, L: Ledger, const N: usize>()
         → SameBut (OrWithin (B.in_flight old) start count) (B.image old) left_image
         → IsSamePair at (B.image old) left_image }
     ensures quiet { (at start count : ℕ) (old new : B) → IsApart at start count → IsQuiet at (B.in_flight old)
-        → WritesIn B.Board start count old new → IsQuiet at (B.in_flight new) }
+        → WritesIn B.Printer start count old new → IsQuiet at (B.in_flight new) }
 {}
 
 /// What a stage or a store promises of the slot that is written next holds for the whole pair.
 pub fn a_store_of_the_whole_pair<T: Body, B: Board<N, L>, L: Ledger, const N: usize>()
     ensures leaves { (pair : Pair) (latest : Option T) (body : T) (old new : B) → IsPair pair
-        → LeavesThroughout B.Board (spare_at pair) slot_size
+        → LeavesThroughout B.Printer (spare_at pair) slot_size
         (ShowsEither T.reads T.number_of pair.at latest body) old new
-        → LeavesThroughout B.Board pair.at pair_size
+        → LeavesThroughout B.Printer pair.at pair_size
         (ShowsEither T.reads T.number_of pair.at latest body) old new }
     ensures writes { (pair : Pair) (old new : B) → IsPair pair
-        → WritesIn B.Board (spare_at pair) slot_size old new → WritesIn B.Board pair.at pair_size old new }
+        → WritesIn B.Printer (spare_at pair) slot_size old new → WritesIn B.Printer pair.at pair_size old new }
 {}

@@ -22,18 +22,18 @@ pub fn a_part_of_the_store_lies_in_the_whole<
     ensures leaves { (start count part size : ℕ) (old new : B) → start ≤ part → part + size ≤ start + count
         → ((left_image : List ℕ) → SameBut (OrWithin (B.in_flight old) part size) (B.image old) left_image
         → K.images left_image → W.images left_image)
-        → WritesIn B.Board part size old new → LeavesThroughout B.Board part size K.images old new
-        → LeavesThroughout B.Board start count W.images old new }
+        → WritesIn B.Printer part size old new → LeavesThroughout B.Printer part size K.images old new
+        → LeavesThroughout B.Printer start count W.images old new }
     ensures writes { (start count part size : ℕ) (old new : B) → start ≤ part → part + size ≤ start + count
-        → WritesIn B.Board part size old new → WritesIn B.Board start count old new }
+        → WritesIn B.Printer part size old new → WritesIn B.Printer start count old new }
 {}
 
 /// What two runs leave of the same part, and write there, both leave and write as one run.
 pub fn a_run_goes_on_in_its_part<B: Board<N, L>, K: Images, L: Ledger, const N: usize>()
-    ensures leaves { (start count : ℕ) (old between new : B) → WritesIn B.Board start count old between
-        → LeavesThroughout B.Board start count K.images old between
-        → LeavesThroughout B.Board start count K.images between new
-        → LeavesThroughout B.Board start count K.images old new }
-    ensures writes { (start count : ℕ) (old between new : B) → WritesIn B.Board start count old between
-        → WritesIn B.Board start count between new → WritesIn B.Board start count old new }
+    ensures leaves { (start count : ℕ) (old between new : B) → WritesIn B.Printer start count old between
+        → LeavesThroughout B.Printer start count K.images old between
+        → LeavesThroughout B.Printer start count K.images between new
+        → LeavesThroughout B.Printer start count K.images old new }
+    ensures writes { (start count : ℕ) (old between new : B) → WritesIn B.Printer start count old between
+        → WritesIn B.Printer start count between new → WritesIn B.Printer start count old new }
 {}

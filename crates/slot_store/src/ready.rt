@@ -61,15 +61,15 @@ impl Ready {
         board: &mut B,
         steps: &mut Steps<L>,
     ) -> Result<Shut, Failed>
-        requires ready { B.tells_image → (latest : Option T) × IsReadyOn T.Body B.Board self board.old latest }
-        ensures any_moment { B.tells_image → (latest : Option T) → IsReadyOn T.Body B.Board self board.old latest
-            → LeavesLatest T.Body B.Board self latest board.old board.new }
-        ensures shut { B.tells_image → OnOk result (Shuts T.Body B.Board self board.old board.new) }
+        requires ready { B.tells_image → (latest : Option T) × IsReadyOn T.Body B.Printer self board.old latest }
+        ensures any_moment { B.tells_image → (latest : Option T) → IsReadyOn T.Body B.Printer self board.old latest
+            → LeavesLatest T.Body B.Printer self latest board.old board.new }
+        ensures shut { B.tells_image → OnOk result (Shuts T.Body B.Printer self board.old board.new) }
         ensures gate { B.tells_image → is_spare_open self.latest ≡ true
             → OnOk result (get_or (B.image board.new) (spare_at self) 0 ≡ 0) }
         ensures closed { is_spare_open self.latest ≡ false
             → IsOk result × (board.new ≡ board.old) × (steps.new ≡ steps.old) }
-        ensures writes { WritesOfSpare B.Board self (spare_at self) 1 board.old board.new }
+        ensures writes { WritesOfSpare B.Printer self (spare_at self) 1 board.old board.new }
         ensures pair { IfOk result (λ shut. shut ≡ self) }
         ensures cause { HasCause (B.faults board.old) (B.faults board.new) result }
         ensures calls { is_spare_open self.latest ≡ true → OnOk result (steps.new ≡ steps.old + 2) }

@@ -34,8 +34,8 @@ pub fn scan<T: Body, B: Board<STORE_SIZE, L>, L: Ledger>(
     ensures settled { B.tells_image → IfOk result
         (IsAsFound T.reads T.number_of at (B.image board.new) (B.in_flight board.new)) }
     ensures sound { IfOk result (IsValidFinding T.valid) }
-    ensures reads { ReadsOnly B.Board board.old board.new }
-    ensures synced { SyncsFirst B.Board (IsErrOf result SlotFault.DeviceFailed) board.old board.new }
+    ensures reads { ReadsOnly B.Printer board.old board.new }
+    ensures synced { SyncsFirst B.Printer (IsErrOf result SlotFault.DeviceFailed) board.old board.new }
     ensures cause { RisesOnlyIf (IsErrOf result SlotFault.DeviceFailed) (B.faults board.old) (B.faults board.new) }
     ensures calls { ¬ IsErrOf result SlotFault.DeviceFailed → steps.new ≡ steps.old + 3 }
     ensures steps { steps.new ≤ steps.old + 3 }
@@ -52,8 +52,8 @@ fn read_pair<B: Board<STORE_SIZE, L>, L: Ledger>(
 ) -> Result<([u8; SLOT_SIZE], [u8; SLOT_SIZE]), Failed>
     requires { at ≤ last_pair }
     ensures slots { B.tells_image → IfOk result (AreOfSlots at (B.image board.old)) }
-    ensures reads { ReadsOnly B.Board board.old board.new }
-    ensures synced { SyncsFirst B.Board (IsErr result) board.old board.new }
+    ensures reads { ReadsOnly B.Printer board.old board.new }
+    ensures synced { SyncsFirst B.Printer (IsErr result) board.old board.new }
     ensures cause { HasCause (B.faults board.old) (B.faults board.new) result }
     ensures calls { OnOk result (steps.new ≡ steps.old + 3) }
     ensures steps { steps.new ≤ steps.old + 3 }
@@ -71,7 +71,7 @@ fn read_slots<B: Board<STORE_SIZE, L>, L: Ledger>(
     requires { at ≤ last_pair }
     ensures slots { B.tells_image → IfOk result (AreOfSlots at (B.image board.old)) }
     ensures same { B.image board.new ≡ B.image board.old }
-    ensures reads { ReadsOnly B.Board board.old board.new }
+    ensures reads { ReadsOnly B.Printer board.old board.new }
     ensures cause { HasCause (B.faults board.old) (B.faults board.new) result }
     ensures calls { OnOk result (steps.new ≡ steps.old + 2) }
     ensures steps { steps.new ≤ steps.old + 2 }

@@ -45,13 +45,13 @@ impl Shut {
         steps: &mut Steps<L>,
     ) -> Result<Written, Failed>
         requires valid { T.valid body.now }
-        requires shut { B.tells_image → (latest : Option T) × MayWrite T.Body B.Board self board.old latest body.now }
-        ensures any_moment { B.tells_image → (latest : Option T) → IsShutOn T.Body B.Board self board.old latest
-            → LeavesLatest T.Body B.Board self latest board.old board.new }
-        ensures written { B.tells_image → OnOk result (WritesBody T.Body B.Board self body.now board.old board.new) }
+        requires shut { B.tells_image → (latest : Option T) × MayWrite T.Body B.Printer self board.old latest body.now }
+        ensures any_moment { B.tells_image → (latest : Option T) → IsShutOn T.Body B.Printer self board.old latest
+            → LeavesLatest T.Body B.Printer self latest board.old board.new }
+        ensures written { B.tells_image → OnOk result (WritesBody T.Body B.Printer self body.now board.old board.new) }
         ensures spelled { B.tells_image
             → OnOk result (bytes_behind (spare_at self) (B.image board.new) ≡ T.spelling body.now) }
-        ensures writes { WritesOfSpare B.Board self (spare_at self + 1) body_size board.old board.new }
+        ensures writes { WritesOfSpare B.Printer self (spare_at self + 1) body_size board.old board.new }
         ensures pair { IfOk result (λ written. written ≡ self) }
         ensures cause { HasCause (B.faults board.old) (B.faults board.new) result }
         ensures calls { OnOk result (steps.new ≡ steps.old + 2) }

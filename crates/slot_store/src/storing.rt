@@ -21,12 +21,13 @@ impl Ready {
         steps: &mut Steps<L>,
     ) -> Result<Place, Failed>
         requires valid { T.valid body.now }
-        requires ready { B.tells_image → (latest : Option T) × MayGet T.Body B.Board self board.old latest body.now }
-        ensures any_moment { B.tells_image → (latest : Option T) → MayGet T.Body B.Board self board.old latest body.now
-            → LeavesLatestOrNew T.Body B.Board self latest body.now board.old board.new }
+        requires ready { B.tells_image → (latest : Option T) × MayGet T.Body B.Printer self board.old latest body.now }
+        ensures any_moment { B.tells_image → (latest : Option T) → MayGet T.Body B.Printer self board.old latest
+            body.now
+            → LeavesLatestOrNew T.Body B.Printer self latest body.now board.old board.new }
         ensures settled { B.tells_image
-            → IfOk result (λ place. IsSettledOn T.Body B.Board self.at place board.new body.now) }
-        ensures beside { WritesIn B.Board (spare_at self) slot_size board.old board.new }
+            → IfOk result (λ place. IsSettledOn T.Body B.Printer self.at place board.new body.now) }
+        ensures beside { WritesIn B.Printer (spare_at self) slot_size board.old board.new }
         ensures place { IfOk result (λ place. place ≡ new_place self) }
         ensures slot_in { IfOk result (λ place. place.slot ≤ 1) }
         ensures cause { HasCause (B.faults board.old) (B.faults board.new) result }

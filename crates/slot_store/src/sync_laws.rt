@@ -12,9 +12,9 @@ pub trait Failing {
 
 /// What follows the opening sync of a call, and neither writes nor prints, leaves what the board held before the call.
 pub fn a_synced_board_is_left_as_held<B: Board<N, L>, L: Ledger, const N: usize>()
-    ensures { (old synced new : B) → IsSynced B.Board old synced
-        → LeavesOnly B.Board synced new (MayLeave (B.image synced) (B.in_flight synced) (B.printed synced))
-        → LeavesOnly B.Board synced new (IsAsHeld B.Board old) }
+    ensures { (old synced new : B) → IsSynced B.Printer old synced
+        → LeavesOnly B.Printer synced new (MayLeave (B.image synced) (B.in_flight synced) (B.printed synced))
+        → LeavesOnly B.Printer synced new (IsAsHeld B.Printer old) }
 {}
 
 /// If nothing was in flight before a call, and what the board held is of a kind that the call leaves from its opening
@@ -26,8 +26,8 @@ pub fn a_settled_board_is_synced_already<
     L: Ledger,
     const N: usize,
 >()
-    ensures { (old new : B) → IsAtRest B.Board old → K.kind (B.image old) (B.printed old)
-        → LeavesFromSync B.Board F.fails old new K.kind → LeavesOnly B.Board old new K.kind }
+    ensures { (old new : B) → IsAtRest B.Printer old → K.kind (B.image old) (B.printed old)
+        → LeavesFromSync B.Printer F.fails old new K.kind → LeavesOnly B.Printer old new K.kind }
 {}
 
 /// What a call leaves from its opening sync on is of each wider kind too, and more may be known if it fails. What
@@ -43,9 +43,9 @@ pub fn a_call_goes_on_behind_its_sync<
 >()
     ensures wider { (old new : B) → (F.fails → G.fails)
         → ((left_image left_text : List ℕ) → K.kind left_image left_text → W.kind left_image left_text)
-        → LeavesFromSync B.Board F.fails old new K.kind → LeavesFromSync B.Board G.fails old new W.kind }
+        → LeavesFromSync B.Printer F.fails old new K.kind → LeavesFromSync B.Printer G.fails old new W.kind }
     ensures goes_on { (old between new : B) → ¬ F.fails
         → ((left_image left_text : List ℕ) → K.kind left_image left_text → W.kind left_image left_text)
-        → LeavesFromSync B.Board F.fails old between K.kind → LeavesOnly B.Board between new W.kind
-        → LeavesFromSync B.Board G.fails old new W.kind }
+        → LeavesFromSync B.Printer F.fails old between K.kind → LeavesOnly B.Printer between new W.kind
+        → LeavesFromSync B.Printer G.fails old new W.kind }
 {}

@@ -44,12 +44,12 @@ impl Written {
         steps: &mut Steps<L>,
     ) -> Result<Place, Failed>
         requires written { B.tells_image → (latest : Option T)
-            × ((body : T) × IsWrittenOn T.Body B.Board self board.old latest body) }
+            × ((body : T) × IsWrittenOn T.Body B.Printer self board.old latest body) }
         ensures any_moment { B.tells_image → (latest : Option T) (body : T)
-            → IsWrittenOn T.Body B.Board self board.old latest body
-            → LeavesLatestOrNew T.Body B.Board self latest body board.old board.new }
-        ensures settled { B.tells_image → IfOk result (OpensAt T.Body B.Board self board.old board.new) }
-        ensures writes { WritesOfSpare B.Board self (spare_at self) 1 board.old board.new }
+            → IsWrittenOn T.Body B.Printer self board.old latest body
+            → LeavesLatestOrNew T.Body B.Printer self latest body board.old board.new }
+        ensures settled { B.tells_image → IfOk result (OpensAt T.Body B.Printer self board.old board.new) }
+        ensures writes { WritesOfSpare B.Printer self (spare_at self) 1 board.old board.new }
         ensures place { IfOk result (λ place. place ≡ new_place self) }
         ensures slot_in { IfOk result (λ place. place.slot ≤ 1) }
         ensures cause { HasCause (B.faults board.old) (B.faults board.new) result }

@@ -1,6 +1,6 @@
 -- Made by tools/make/imports: what several files of this crate bring in of its types and of crates below.
 pub use Rattle.{taxi_units.specs.Line.{line_size}, outside.specs.Runs.{IsAtRest, KeepsStore, LeavesOnly, MayHold}}
-pub use Rattle.outside.specs.{Faults.{HasCause, Rose}, Reading.{LeavesOthers}, declared.board.Board.{Ghosts}}
+pub use Rattle.outside.specs.{Faults.{HasCause, Rose}, Reading.{LeavesOthers}, declared.printer.Printer.{Ghosts}}
 pub use Rattle.{outside.specs.PrintedText.{Begins}, slot_store.specs.declared.found.Found.TheVariants.{Blank, Latest}}
 pub use Rattle.slot_store.specs.{Scan.{IsAsFound, found_at}, declared.{found.Found.{Found}, pair.Place.{Place}}}
 pub use Rattle.slot_store.specs.{Syncs.{IsAsHeld, LeavesFromSync, ReadsOnly}, declared.found.SlotFault.{SlotFault}}

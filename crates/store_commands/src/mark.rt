@@ -20,7 +20,7 @@ pub fn print_mark<B: Board<STORE_SIZE, L>, L: Ledger>(
     board: &mut B,
     steps: &mut Steps<L>,
 ) -> Ended
-    ensures { (contents : ℕ → List ℕ) → Carries (no_files contents) B.Board (mark_command driver) tt tt
+    ensures { (contents : ℕ → List ℕ) → Carries (no_files contents) B.Printer (mark_command driver) tt tt
         board.old board.new steps.old steps.new result }
 {
     let store = match open_sealed(board, steps) {

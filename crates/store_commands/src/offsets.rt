@@ -9,7 +9,7 @@ ghost use Rattle.store_commands.specs.{Offsets.{offsets_command}, StoreEnds.{end
 use crate::years::Years;
 use call_ends::Ended;
 use offset_rules::{RuleFault, Rules, put_offset, read_rules};
-use outside::{Board, Failed, Files, RoomFault, STORE_SIZE, read_whole};
+use outside::{Failed, Files, Printer, RoomFault, STORE_SIZE, read_whole};
 use std::sync::ledger::Ledger;
 use taxi_units::{Line, Steps};
 
@@ -26,13 +26,13 @@ pub enum RulesFault {
 const ROOM: usize = 4097;
 
 /// Prints the list of offsets that the rules of word 1 give for some years, a line a pair.
-pub fn print_offsets<F: Files, B: Board<STORE_SIZE, L>, L: Ledger>(
+pub fn print_offsets<F: Files, B: Printer<STORE_SIZE, L>, L: Ledger>(
     years: Years,
     files: &mut F,
     board: &mut B,
     steps: &mut Steps<L>,
 ) -> Ended
-    ensures { Carries F.Files B.Board (offsets_command years) files.old files.new board.old board.new
+    ensures { Carries F.Files B.Printer (offsets_command years) files.old files.new board.old board.new
         steps.old steps.new result }
 {
     let rules = match rules_of_word(files, 1) {
@@ -81,7 +81,7 @@ fn rules_of_word<F: Files>(files: &mut F, word: usize) -> Result<Rules, RulesFau
 }
 
 /// Prints the lines of a list of offsets, one after the other.
-pub fn print_pairs<B: Board<STORE_SIZE, L>, L: Ledger>(
+pub fn print_pairs<B: Printer<STORE_SIZE, L>, L: Ledger>(
     pairs: &[(u64, i32)],
     board: &mut B,
     steps: &mut Steps<L>,
@@ -90,7 +90,7 @@ pub fn print_pairs<B: Board<STORE_SIZE, L>, L: Ledger>(
     ensures begun { B.tells_text → Begins (B.printed board.old) (B.printed board.new) (offset_lines pairs.now) }
     ensures cause { HasCause (B.faults board.old) (B.faults board.new) result }
     ensures steps { steps.new ≤ steps.old + length pairs.now }
-    ensures store { KeepsStore B.Board board.old board.new }
+    ensures store { KeepsStore B.Printer board.old board.new }
 {
     for pair in pairs {
         let line = line_of(*pair);

@@ -41,12 +41,12 @@ pub fn open_store<B: Board<STORE_SIZE, L>, L: Ledger>(
     steps: &mut Steps<L>,
 ) -> Result<Opening, StoreFault>
     ensures exact { B.tells_image → ¬ IsErrOf result StoreFault.BoardFault → result ≡ opening_in (B.image board.old) }
-    ensures opened { B.tells_image → IfOk result (IsOpened B.Board board.new) }
+    ensures opened { B.tells_image → IfOk result (IsOpened B.Printer board.new) }
     ensures sound { IfOk result IsOpeningInRange }
-    ensures reads { ReadsOnly B.Board board.old board.new }
-    ensures synced { B.tells_image → LeavesFromSync B.Board (IsErrOf result StoreFault.BoardFault)
-        board.old board.new (IsAsHeld B.Board board.old) }
-    ensures settled { B.tells_image → ¬ IsErrOf result StoreFault.BoardFault → IsAtRest B.Board board.new }
+    ensures reads { ReadsOnly B.Printer board.old board.new }
+    ensures synced { B.tells_image → LeavesFromSync B.Printer (IsErrOf result StoreFault.BoardFault)
+        board.old board.new (IsAsHeld B.Printer board.old) }
+    ensures settled { B.tells_image → ¬ IsErrOf result StoreFault.BoardFault → IsAtRest B.Printer board.new }
     ensures same { ¬ IsErrOf result StoreFault.BoardFault → B.image board.new ≡ B.image board.old }
     ensures count { ¬ IsErrOf result StoreFault.BoardFault → B.faults board.new ≡ B.faults board.old }
     ensures cause { IsErrOf result StoreFault.BoardFault → Rose (B.faults board.old) (B.faults board.new) }

@@ -15,7 +15,7 @@ pub fn serve_requests<F: Files, B: Board<STORE_SIZE, L>, L: Ledger>(
     board: &mut B,
     steps: &mut Steps<L>,
 ) -> Ended
-    ensures { Carries F.Files B.Board port_command files.old files.new board.old board.new
+    ensures { Carries F.Files B.Printer port_command files.old files.new board.old board.new
         steps.old steps.new result }
 {
     let store = match open_sealed(board, steps) {

@@ -165,9 +165,9 @@ pub fn seal_store<F: Files, B: Board<STORE_SIZE, L>, L: Ledger>(
     board: &mut B,
     steps: &mut Steps<L>,
 ) -> Ended
-    ensures carries { Carries F.Files B.Board seal_command files.old files.new board.old board.new
+    ensures carries { Carries F.Files B.Printer seal_command files.old files.new board.old board.new
         steps.old steps.new result }
-    ensures comes { F.tells → B.tells_image → SealReachesLine F.Files B.Board files.old board.old board.new result }
+    ensures comes { F.tells → B.tells_image → SealReachesLine F.Files B.Printer files.old board.old board.new result }
 {
     let opening = match open_store(board, steps) {
         Ok(opening) => opening,

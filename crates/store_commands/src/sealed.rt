@@ -19,14 +19,14 @@ pub fn open_sealed<B: Board<STORE_SIZE, L>, L: Ledger>(
 ) -> Result<(Durable, Seal), Ended>
     ensures exact { B.tells_image → ¬ IsErrOf result Ended.BoardFault
         → result ≡ store_of (opening_in (B.image board.old)) }
-    ensures found { B.tells_image → IfOk result (λ store. IsOpenedWith B.Board board.new store.0) }
+    ensures found { B.tells_image → IfOk result (λ store. IsOpenedWith B.Printer board.new store.0) }
     ensures durable { IfOk result (λ store. IsDurable store.0) }
     ensures seal { IfOk result (λ store. IsSeal store.1) }
     ensures barred { IfErr result IsBarred }
     ensures not_read { IfErr result (λ why. why ≢ Ended.ReadFault) }
-    ensures cause { IfErr result (HasCauseOn B.Board board.old board.new) }
-    ensures looks { IfErr result (LeavesStoreUnwritten B.Board board.old board.new) }
-    ensures opens { OnlyOpens B.Board (IsErrOf result Ended.BoardFault) board.old board.new }
+    ensures cause { IfErr result (HasCauseOn B.Printer board.old board.new) }
+    ensures looks { IfErr result (LeavesStoreUnwritten B.Printer board.old board.new) }
+    ensures opens { OnlyOpens B.Printer (IsErrOf result Ended.BoardFault) board.old board.new }
     ensures steps { steps.new ≤ steps.old + 6 }
 {
     let opening = match open_store(board, steps) {

@@ -9,7 +9,7 @@ use crate::offsets::print_pairs;
 use crate::sealed::open_sealed;
 use crate::sealed_text::{sealed_heading, secured_line};
 use call_ends::Ended;
-use outside::{Board, Failed, STORE_SIZE};
+use outside::{Board, Failed, Printer, STORE_SIZE};
 use seal_record::Seal;
 use std::sync::ledger::Ledger;
 use taxi_units::Steps;
@@ -19,7 +19,7 @@ pub fn print_sealed<B: Board<STORE_SIZE, L>, L: Ledger>(
     board: &mut B,
     steps: &mut Steps<L>,
 ) -> Ended
-    ensures { (contents : ℕ → List ℕ) → Carries (no_files contents) B.Board sealed_command tt tt
+    ensures { (contents : ℕ → List ℕ) → Carries (no_files contents) B.Printer sealed_command tt tt
         board.old board.new steps.old steps.new result }
 {
     let store = match open_sealed(board, steps) {
@@ -33,7 +33,7 @@ pub fn print_sealed<B: Board<STORE_SIZE, L>, L: Ledger>(
 }
 
 /// Prints a seal: the comments and the settings, a line for each pair of the offsets, and the date of securing.
-fn print_seal<B: Board<STORE_SIZE, L>, L: Ledger>(
+fn print_seal<B: Printer<STORE_SIZE, L>, L: Ledger>(
     seal: &Seal,
     board: &mut B,
     steps: &mut Steps<L>,
@@ -45,7 +45,7 @@ fn print_seal<B: Board<STORE_SIZE, L>, L: Ledger>(
         → Begins (B.printed board.old) (B.printed board.new) (sealed_text seal.now) }
     ensures cause { HasCause (B.faults board.old) (B.faults board.new) result }
     ensures steps { steps.new ≤ steps.old + 34 }
-    ensures store { KeepsStore B.Board board.old board.new }
+    ensures store { KeepsStore B.Printer board.old board.new }
 {
     let heading = sealed_heading(seal);
     board.print(heading.as_slice(), steps)?;

@@ -33,7 +33,7 @@ pub fn print_shifts<F: Files, B: Board<STORE_SIZE, L>, L: Ledger>(
     board: &mut B,
     steps: &mut Steps<L>,
 ) -> Ended
-    ensures { Carries F.Files B.Board shifts_command files.old files.new board.old board.new
+    ensures { Carries F.Files B.Printer shifts_command files.old files.new board.old board.new
         steps.old steps.new result }
 {
     let store = match open_sealed(board, steps) {

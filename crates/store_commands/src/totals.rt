@@ -8,14 +8,14 @@ ghost use Rattle.store_commands.specs.{Totals.{totals_command}, TotalsText.{posi
 use crate::sealed::open_sealed;
 use crate::totals_text::{heading, position_line};
 use call_ends::Ended;
-use outside::{Board, Failed, STORE_SIZE};
+use outside::{Board, Failed, Printer, STORE_SIZE};
 use std::sync::ledger::Ledger;
 use taxi_units::Steps;
 use totals_record::{Durable, Share};
 
 /// Scans the store, and prints its totals.
 pub fn print_store<B: Board<STORE_SIZE, L>, L: Ledger>(board: &mut B, steps: &mut Steps<L>) -> Ended
-    ensures { (contents : ℕ → List ℕ) → Carries (no_files contents) B.Board totals_command tt tt
+    ensures { (contents : ℕ → List ℕ) → Carries (no_files contents) B.Printer totals_command tt tt
         board.old board.new steps.old steps.new result }
 {
     let store = match open_sealed(board, steps) {
@@ -29,7 +29,7 @@ pub fn print_store<B: Board<STORE_SIZE, L>, L: Ledger>(board: &mut B, steps: &mu
 }
 
 /// Prints totals, with the lines of the tariff positions at the end.
-fn print_totals<B: Board<STORE_SIZE, L>, L: Ledger>(
+fn print_totals<B: Printer<STORE_SIZE, L>, L: Ledger>(
     durable: &Durable,
     decimals: u8,
     board: &mut B,
@@ -42,7 +42,7 @@ fn print_totals<B: Board<STORE_SIZE, L>, L: Ledger>(
         → Begins (B.printed board.old) (B.printed board.new) (totals_text decimals durable.now) }
     ensures cause { HasCause (B.faults board.old) (B.faults board.new) result }
     ensures steps { steps.new ≤ steps.old + 10 }
-    ensures store { KeepsStore B.Board board.old board.new }
+    ensures store { KeepsStore B.Printer board.old board.new }
 {
     let line = heading(durable, decimals);
     board.print(line.as_slice(), steps)?;
@@ -53,7 +53,7 @@ fn print_totals<B: Board<STORE_SIZE, L>, L: Ledger>(
 }
 
 /// Prints the line of the tariff position whose share is at a place, if it has hirings.
-fn print_position<B: Board<STORE_SIZE, L>, L: Ledger>(
+fn print_position<B: Printer<STORE_SIZE, L>, L: Ledger>(
     shares: &[Share; 9],
     place: usize,
     decimals: u8,
@@ -68,7 +68,7 @@ fn print_position<B: Board<STORE_SIZE, L>, L: Ledger>(
         → Begins (B.printed board.old) (B.printed board.new) (position_at decimals shares.now place) }
     ensures cause { HasCause (B.faults board.old) (B.faults board.new) result }
     ensures steps { steps.new ≤ steps.old + 1 }
-    ensures store { KeepsStore B.Board board.old board.new }
+    ensures store { KeepsStore B.Printer board.old board.new }
 {
     let share = shares[place];
     if share.hirings == 0 {

@@ -6,7 +6,7 @@ ghost use Rattle.tariff_commands.specs.{Compare.{compare_command}, CompareSteps.
 
 use call_ends::{Ended, Made, TextFault, print_made, read_tariff, refused_by};
 use drive_modes::Constant;
-use outside::{Board, Files, STORE_SIZE};
+use outside::{Files, Printer, STORE_SIZE};
 use std::alloc::Global;
 use std::sync::ledger::Ledger;
 use tariff_check::Checked;
@@ -15,14 +15,14 @@ use taxi_units::{NoMemory, Steps};
 
 /// Prints what differs first under a constant between the tariffs of words 1 and 2. It prints nothing before it has
 /// read both, word 1 first.
-pub fn print_comparison<F: Files, B: Board<STORE_SIZE, L>, L: Ledger>(
+pub fn print_comparison<F: Files, B: Printer<STORE_SIZE, L>, L: Ledger>(
     alloc: Global,
     constant: Constant,
     files: &mut F,
     board: &mut B,
     steps: &mut Steps<L>,
 ) -> Ended
-    ensures { Carries F.Files B.Board (compare_command constant) files.old files.new board.old board.new
+    ensures { Carries F.Files B.Printer (compare_command constant) files.old files.new board.old board.new
         steps.old steps.new result }
 {
     print_made(compare_words(alloc, files, constant), board, steps)

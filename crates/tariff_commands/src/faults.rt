@@ -8,7 +8,7 @@ ghost use Rattle.tariff_commands.specs.Faults.{faults_command, faults_in, refusa
 ghost use Rattle.tariff_commands.specs.FaultsSteps.{IsFoundIn, IsFoundOf, found_end, found_text};
 
 use call_ends::{Ended, Made, Refusal, TextFault, bad_tariff_line, print_made, text_of_word};
-use outside::{Board, Files, STORE_SIZE};
+use outside::{Files, Printer, STORE_SIZE};
 use std::alloc::{AllocError, Global};
 use std::sync::ledger::Ledger;
 use tariff_check::{CheckFault, check, faults};
@@ -26,13 +26,13 @@ pub enum Found {
 
 /// Prints a line for each fault of the tariff of word 1, or that it is sound. It takes no memory after a line is
 /// printed.
-pub fn print_faults<F: Files, B: Board<STORE_SIZE, L>, L: Ledger>(
+pub fn print_faults<F: Files, B: Printer<STORE_SIZE, L>, L: Ledger>(
     alloc: Global,
     files: &mut F,
     board: &mut B,
     steps: &mut Steps<L>,
 ) -> Ended
-    ensures { Carries F.Files B.Board faults_command files.old files.new board.old board.new
+    ensures { Carries F.Files B.Printer faults_command files.old files.new board.old board.new
         steps.old steps.new result }
 {
     print_made(found_in_word(alloc, files), board, steps)

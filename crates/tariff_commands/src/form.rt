@@ -5,20 +5,20 @@ ghost use Rattle.tariff_commands.specs.{Common.{tree_of}, Form.{form_answer, for
 ghost use Rattle.tariff_commands.specs.FormSteps.{ended_unparsed};
 
 use call_ends::{Ended, Made, Refusal, print_made, refused_by, text_of_word};
-use outside::{Board, Files, STORE_SIZE};
+use outside::{Files, Printer, STORE_SIZE};
 use std::alloc::Global;
 use std::sync::ledger::Ledger;
 use tariff_syntax::{ParseFault, Tariff, parse, print};
 use taxi_units::Steps;
 
 /// Prints the printed form of the tariff of word 1, sound or not.
-pub fn print_form<F: Files, B: Board<STORE_SIZE, L>, L: Ledger>(
+pub fn print_form<F: Files, B: Printer<STORE_SIZE, L>, L: Ledger>(
     alloc: Global,
     files: &mut F,
     board: &mut B,
     steps: &mut Steps<L>,
 ) -> Ended
-    ensures { Carries F.Files B.Board form_command files.old files.new board.old board.new
+    ensures { Carries F.Files B.Printer form_command files.old files.new board.old board.new
         steps.old steps.new result }
 {
     print_made(form_of_word(alloc, files), board, steps)

@@ -4,21 +4,21 @@ ghost use Rattle.tariff_commands.specs.Common.{Carries, IsMade, Makes, end_made,
 
 use call_ends::{Ended, Made, print_made, refused_by, tariff_of_text, text_of_word};
 use drive_modes::Constant;
-use outside::{Board, Files, STORE_SIZE};
+use outside::{Files, Printer, STORE_SIZE};
 use std::alloc::Global;
 use std::sync::ledger::Ledger;
 use tariff_compare::{line_uses, print_uses};
 use taxi_units::Steps;
 
 /// Prints for each line of the tariff of word 1 whether it ever counts under a constant.
-pub fn print_lines<F: Files, B: Board<STORE_SIZE, L>, L: Ledger>(
+pub fn print_lines<F: Files, B: Printer<STORE_SIZE, L>, L: Ledger>(
     alloc: Global,
     constant: Constant,
     files: &mut F,
     board: &mut B,
     steps: &mut Steps<L>,
 ) -> Ended
-    ensures { Carries F.Files B.Board (lines_command constant) files.old files.new board.old board.new
+    ensures { Carries F.Files B.Printer (lines_command constant) files.old files.new board.old board.new
         steps.old steps.new result }
 {
     print_made(list_of_word(alloc, files, constant), board, steps)

@@ -9,21 +9,21 @@ ghost use Rattle.tariff_commands.specs.{Common.{Carries, row_count, row_text, ro
 use crate::compiled::tables_of_word;
 use call_ends::{Ended, ended_behind, refused_by};
 use drive_modes::Constant;
-use outside::{Board, Failed, Files, STORE_SIZE};
+use outside::{Failed, Files, Printer, STORE_SIZE};
 use std::alloc::Global;
 use std::sync::ledger::Ledger;
 use tariff_compile::Tables;
 use taxi_units::{Line, Steps};
 
 /// Prints all rows of the tables of word 1's tariff under a constant.
-pub fn print_tables<F: Files, B: Board<STORE_SIZE, L>, L: Ledger>(
+pub fn print_tables<F: Files, B: Printer<STORE_SIZE, L>, L: Ledger>(
     alloc: Global,
     constant: Constant,
     files: &mut F,
     board: &mut B,
     steps: &mut Steps<L>,
 ) -> Ended
-    ensures { Carries F.Files B.Board (tables_command constant) files.old files.new board.old board.new
+    ensures { Carries F.Files B.Printer (tables_command constant) files.old files.new board.old board.new
         steps.old steps.new result }
 {
     let tables = match tables_of_word(alloc, files, 1, constant) {
@@ -34,7 +34,7 @@ pub fn print_tables<F: Files, B: Board<STORE_SIZE, L>, L: Ledger>(
 }
 
 /// Prints the rows of tables, one after the other.
-fn print_rows<B: Board<STORE_SIZE, L>, L: Ledger>(
+fn print_rows<B: Printer<STORE_SIZE, L>, L: Ledger>(
     tables: &Tables,
     board: &mut B,
     steps: &mut Steps<L>,
@@ -43,7 +43,7 @@ fn print_rows<B: Board<STORE_SIZE, L>, L: Ledger>(
     ensures begun { B.tells_text → Begins (B.printed board.old) (B.printed board.new) (rows_text tables.now) }
     ensures cause { HasCause (B.faults board.old) (B.faults board.new) result }
     ensures steps { steps.new ≤ steps.old + row_count tables.now }
-    ensures store { KeepsStore B.Board board.old board.new }
+    ensures store { KeepsStore B.Printer board.old board.new }
 {
     for i in 0..tables.rows() {
         let line = row_of(tables, i);

@@ -3,7 +3,7 @@ ghost use Rattle.std.specs.Prelude.{◌<◌, ◌↔◌, ◌≡◌, ◌≤◌, Is
 
 use crate::meter::tests::{must_at, must_behind};
 use memory_devices::{Fill, MemoryBoard};
-use outside::{Board, Failed};
+use outside::{Board, Failed, Printer};
 use std::alloc::Global;
 use std::marker::Brand;
 use std::sync::ledger::{Blank, Ledger};

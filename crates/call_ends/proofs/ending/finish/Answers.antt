@@ -13,26 +13,26 @@ leaves_line B old new text line is =
 
 pub returns-in-Ok-clause-leaves : goal.returns-in-Ok-clause-leaves
 returns-in-Ok-clause-leaves g c =
-    let B = g.B.Board in
+    let B = g.B.Printer in
     let old = c.args.board.now in
     leaves_line B old c.print.new.self c.as_slice.result.now _ (c.as_slice.ensures.value ∙ c.last_line-line.ensures)
     (leaves_print B old c.print.new.self c.as_slice.result.now c.print.ensures.image c.print.ensures.flight
-    c.print.ensures.time (g.met.B.Board.only_now old))
+    c.print.ensures.time (g.met.B.Printer.only_now old))
 
 pub returns-in-Err-clause-leaves : goal.returns-in-Err-clause-leaves
 returns-in-Err-clause-leaves g c =
-    let B = g.B.Board in
+    let B = g.B.Printer in
     let old = c.args.board.now in
     leaves_line B old c.print.new.self c.as_slice.result.now _ (c.as_slice.ensures.value ∙ c.last_line-line.ensures)
     (leaves_print B old c.print.new.self c.as_slice.result.now c.print.ensures.image c.print.ensures.flight
-    c.print.ensures.time (g.met.B.Board.only_now old))
+    c.print.ensures.time (g.met.B.Printer.only_now old))
 
 pub returns-then-is_empty-clause-leaves : goal.returns-then-is_empty-clause-leaves
 returns-then-is_empty-clause-leaves g c =
-    let B = g.B.Board in
+    let B = g.B.Printer in
     let old = c.args.board.now in
     leaves_none B (MayLeaveAmid (B.image old) (B.in_flight old) (B.printed old) (line_of c.args.ended)) old
-    (λ i x was. let h = g.met.B.Board.only_now old i x was in record {
+    (λ i x was. let h = g.met.B.Printer.only_now old i x was in record {
       bytes = h.bytes;
       small = h.small;
       text = begins_not (B.printed old) x (line_of c.args.ended) h.text;
@@ -41,14 +41,14 @@ returns-then-is_empty-clause-leaves g c =
 -- ---- the store
 
 pub returns-then-is_empty-clause-store : goal.returns-then-is_empty-clause-store
-returns-then-is_empty-clause-store g c = keeps_none g.B.Board c.args.board.now
+returns-then-is_empty-clause-store g c = keeps_none g.B.Printer c.args.board.now
 
 pub returns-in-Ok-clause-store : goal.returns-in-Ok-clause-store
 returns-in-Ok-clause-store g c =
-    keeps_print g.B.Board c.args.board.now c.print.new.self c.as_slice.result.now c.print.ensures.image
+    keeps_print g.B.Printer c.args.board.now c.print.new.self c.as_slice.result.now c.print.ensures.image
     c.print.ensures.flight c.print.ensures.time
 
 pub returns-in-Err-clause-store : goal.returns-in-Err-clause-store
 returns-in-Err-clause-store g c =
-    keeps_print g.B.Board c.args.board.now c.print.new.self c.as_slice.result.now c.print.ensures.image
+    keeps_print g.B.Printer c.args.board.now c.print.new.self c.as_slice.result.now c.print.ensures.image
     c.print.ensures.flight c.print.ensures.time

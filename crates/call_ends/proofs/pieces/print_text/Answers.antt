@@ -23,7 +23,7 @@ one_piece steps before rest most more total start is least parts some so_far =
 
 pub returns-in_err-print-clause-begun : goal.returns-in_err-print-clause-begun
 returns-in_err-print-clause-begun g c = λ told.
-    let printed = g.B.Board.printed in
+    let printed = g.B.Printer.printed in
     let inv = c.loop-rest.invariant in
     let rest = c.loop-rest.rest.now in
     let piece = c.split_at.result.0.now in
@@ -38,7 +38,7 @@ returns-in_err-print-clause-begun g c = λ told.
 
 pub loop-rest-preserved : goal.loop-rest-preserved
 loop-rest-preserved g c =
-    let printed = g.B.Board.printed in
+    let printed = g.B.Printer.printed in
     let inv = c.loop-rest.invariant in
     let rest = c.loop-rest.rest.now in
     let piece = c.split_at.result.0.now in
@@ -52,7 +52,8 @@ loop-rest-preserved g c =
           c.in_ok-print.ensures.whole told ∙ ap (λ (x : List ℕ). x ++ piece) (inv.printed told)
           ∙ append_assoc (printed c.args.board.now) inv.done piece;
       faults = c.in_ok-print.ensures.cause.kept (refl {a = true}) ∙ inv.faults;
-      store = keeps_then g.B.Board c.args.board.now c.loop-rest.board c.print.new.self inv.store (keeps_print g.B.Board
+      store = keeps_then g.B.Printer c.args.board.now c.loop-rest.board c.print.new.self inv.store
+          (keeps_print g.B.Printer
           c.loop-rest.board c.print.new.self _ c.print.ensures.image c.print.ensures.flight c.print.ensures.time);
       steps = one_piece c.print.new.steps c.loop-rest.steps (length rest) c.min.result (length more)
           (pieces_of (length c.args.text.now)) c.args.steps.now
@@ -61,5 +62,5 @@ loop-rest-preserved g c =
 
 pub returns-in_err-print-clause-store : goal.returns-in_err-print-clause-store
 returns-in_err-print-clause-store g c =
-    keeps_then g.B.Board c.args.board.now c.loop-rest.board c.print.new.self c.loop-rest.invariant.store (keeps_print
-    g.B.Board c.loop-rest.board c.print.new.self _ c.print.ensures.image c.print.ensures.flight c.print.ensures.time)
+    keeps_then g.B.Printer c.args.board.now c.loop-rest.board c.print.new.self c.loop-rest.invariant.store (keeps_print
+    g.B.Printer c.loop-rest.board c.print.new.self _ c.print.ensures.image c.print.ensures.flight c.print.ensures.time)

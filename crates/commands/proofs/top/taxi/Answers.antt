@@ -26,11 +26,11 @@ course_as F B row row' files files' old new end e h =
 
 pub returns-in-Some-clause-call : goal.returns-in-Some-clause-call
 returns-in-Some-clause-call g c =
-    subst (λ (o : Option Row). (command_of o).told g.F.Files.tells g.B.Board.tells_image
-    → IsCall g.F.Files g.B.Board (command_of o) c.args.files.now c.carry_out-ended.new.files c.args.board.now
+    subst (λ (o : Option Row). (command_of o).told g.F.Files.tells g.B.Printer.tells_image
+    → IsCall g.F.Files g.B.Printer (command_of o) c.args.files.now c.carry_out-ended.new.files c.args.board.now
     c.finish-in-Some.new.board c.finish-in-Some.result)
     c.in-Some.ensures
-    (λ known. call_from g.F.Files g.B.Board c.args.files.now c.carry_out-ended.new.files c.args.board.now
+    (λ known. call_from g.F.Files g.B.Printer c.args.files.now c.carry_out-ended.new.files c.args.board.now
     c.carry_out-ended.new.board c.finish-in-Some.new.board
     c.carry_out-ended.result c.finish-in-Some.result (cause_carried c.carry_out-ended.ensures.carries)
     c.finish-in-Some.ensures.count c.finish-in-Some.ensures.ends
@@ -39,8 +39,8 @@ returns-in-Some-clause-call g c =
 
 pub returns-in-None-clause-call : goal.returns-in-None-clause-call
 returns-in-None-clause-call g c =
-    subst (λ (o : Option Row). (command_of o).told g.F.Files.tells g.B.Board.tells_image
-    → IsCall g.F.Files g.B.Board
+    subst (λ (o : Option Row). (command_of o).told g.F.Files.tells g.B.Printer.tells_image
+    → IsCall g.F.Files g.B.Printer
     (command_of o) c.args.files.now c.args.files.now c.args.board.now c.finish.new.board c.finish.result)
     c.in-None.ensures
     (λ known. record {
@@ -55,22 +55,22 @@ returns-in-None-clause-call g c =
 
 pub returns-in-None-clause-complete : goal.returns-in-None-clause-complete
 returns-in-None-clause-complete g c = λ known read calm.
-    completes g.F.Files g.B.Board (called (map string_bytes c.args.words.now)) c.args.files.now c.args.files.now
+    completes g.F.Files g.B.Printer (called (map string_bytes c.args.words.now)) c.args.files.now c.args.files.now
     c.args.board.now c.finish.new.board c.finish.result read calm
     (returns-in-None-clause-call g c known)
 
 pub returns-in-Some-clause-complete : goal.returns-in-Some-clause-complete
 returns-in-Some-clause-complete g c = λ known read calm.
-    completes g.F.Files g.B.Board (called (map string_bytes c.args.words.now)) c.args.files.now
+    completes g.F.Files g.B.Printer (called (map string_bytes c.args.words.now)) c.args.files.now
     c.carry_out-ended.new.files c.args.board.now c.finish-in-Some.new.board
     c.finish-in-Some.result read calm (returns-in-Some-clause-call g c known)
 
 pub returns-in-Some-clause-unwritten : goal.returns-in-Some-clause-unwritten
 returns-in-Some-clause-unwritten g c =
     subst (λ (o : Option Row). ¬ ((command_of o).writes c.finish-in-Some.result)
-    → WritesNothing g.B.Board c.args.board.now c.finish-in-Some.new.board c.finish-in-Some.result)
+    → WritesNothing g.B.Printer c.args.board.now c.finish-in-Some.new.board c.finish-in-Some.result)
     c.in-Some.ensures
-    (nothing_written g.F.Files g.B.Board c.args.files.now c.carry_out-ended.new.files c.args.board.now
+    (nothing_written g.F.Files g.B.Printer c.args.files.now c.carry_out-ended.new.files c.args.board.now
     c.carry_out-ended.new.board c.finish-in-Some.new.board
     c.carry_out-ended.result c.finish-in-Some.result (cause_carried c.carry_out-ended.ensures.carries)
     c.finish-in-Some.ensures.count c.finish-in-Some.ensures.ends
@@ -79,27 +79,27 @@ returns-in-Some-clause-unwritten g c =
 
 pub returns-in-None-clause-unwritten : goal.returns-in-None-clause-unwritten
 returns-in-None-clause-unwritten g c = λ not. record {
-  bytes = bytes-kept g.B.Board c.args.board.now c.finish.new.board c.finish.ensures.store;
+  bytes = bytes-kept g.B.Printer c.args.board.now c.finish.new.board c.finish.ensures.store;
   same = λ not_8. c.finish.ensures.store.same;
 }
 
 pub returns-in-Some-clause-seals : goal.returns-in-Some-clause-seals
 returns-in-Some-clause-seals g c = λ e read tells.
-    let printed = g.B.Board.printed in
+    let printed = g.B.Printer.printed in
     let old = c.args.board.now in
     let mid = c.carry_out-ended.new.board in
     let new = c.finish-in-Some.new.board in
-    let comes = course_as g.F.Files g.B.Board c.in-Some.row rows.Seal c.args.files.now c.carry_out-ended.new.files old
+    let comes = course_as g.F.Files g.B.Printer c.in-Some.row rows.Seal c.args.files.now c.carry_out-ended.new.files old
     mid c.carry_out-ended.result
     (is_seal c.in-Some.row (c.in-Some.ensures ∙ e)) c.carry_out-ended.ensures.comes read tells in
-    seals-finished g.B.Board _ old mid new c.carry_out-ended.result c.finish-in-Some.result g.B.Board.tells_text _
+    seals-finished g.B.Printer _ old mid new c.carry_out-ended.result c.finish-in-Some.result g.B.Printer.tells_text _
     (printed mid) (printed new)
     comes.seals comes.rests c.finish-in-Some.ensures.store c.finish-in-Some.ensures.leaves
     c.finish-in-Some.ensures.silent c.finish-in-Some.ensures.ends
 
 pub returns-in-Some-clause-settled : goal.returns-in-Some-clause-settled
 returns-in-Some-clause-settled g c = λ is read tells still.
-    seals-settled g.B.Board (g.F.Files.rest c.args.files.now 1)
+    seals-settled g.B.Printer (g.F.Files.rest c.args.files.now 1)
     (g.F.Files.rest c.args.files.now 2) c.args.board.now c.finish-in-Some.new.board c.finish-in-Some.result still
     (returns-in-Some-clause-seals g c is read tells)
 
@@ -118,22 +118,22 @@ returns-in-Some-clause-runs g c = λ e read tells.
     let new = c.finish-in-Some.new.board in
     let end = c.carry_out-ended.result in
     let status = c.finish-in-Some.result in
-    let comes = course_as g.F.Files g.B.Board c.in-Some.row rows.Run files files' old mid end
+    let comes = course_as g.F.Files g.B.Printer c.in-Some.row rows.Run files files' old mid end
     (is_run c.in-Some.row (c.in-Some.ensures ∙ e)) c.carry_out-ended.ensures.comes read tells in
-    let unread : LeavesUnread run_command (g.F.Files.rest files) (g.F.Files.rest files') (g.B.Board.image old) =
-    subst (λ (o : Option Row). (command_of o).told g.F.Files.tells g.B.Board.tells_image → LeavesUnread (command_of o)
-    (g.F.Files.rest files) (g.F.Files.rest files') (g.B.Board.image old))
+    let unread : LeavesUnread run_command (g.F.Files.rest files) (g.F.Files.rest files') (g.B.Printer.image old) =
+    subst (λ (o : Option Row). (command_of o).told g.F.Files.tells g.B.Printer.tells_image → LeavesUnread (command_of o)
+    (g.F.Files.rest files) (g.F.Files.rest files') (g.B.Printer.image old))
     (c.in-Some.ensures ∙ e) c.carry_out-ended.ensures.carries.unread (read, tells) in
-    let call = call_from g.F.Files g.B.Board files files' old mid new end status
+    let call = call_from g.F.Files g.B.Printer files files' old mid new end status
     (cause_carried c.carry_out-ended.ensures.carries) c.finish-in-Some.ensures.count c.finish-in-Some.ensures.ends
     run_command comes.comes unread in
-    run-finished g.F.Files g.B.Board files files' old mid new end status comes c.finish-in-Some.ensures.store
+    run-finished g.F.Files g.B.Printer files files' old mid new end status comes c.finish-in-Some.ensures.store
     c.finish-in-Some.ensures.leaves c.finish-in-Some.ensures.silent
-    call (call_course g.F.Files g.B.Board files files' old mid new end status
+    call (call_course g.F.Files g.B.Printer files files' old mid new end status
     (cause_carried c.carry_out-ended.ensures.carries) c.finish-in-Some.ensures.count c.finish-in-Some.ensures.ends
     run_command comes.comes unread)
     c.finish-in-Some.ensures.ends
-    (λ bytes. bytes-then g.B.Board old mid new bytes (bytes-kept g.B.Board mid new c.finish-in-Some.ensures.store))
+    (λ bytes. bytes-then g.B.Printer old mid new bytes (bytes-kept g.B.Printer mid new c.finish-in-Some.ensures.store))
 
 pub returns-in-None-clause-runs : goal.returns-in-None-clause-runs
 returns-in-None-clause-runs g c = λ e. absurd (not_some _ _ (sym c.in-None.ensures) e)
@@ -141,18 +141,18 @@ returns-in-None-clause-runs g c = λ e. absurd (not_some _ _ (sym c.in-None.ensu
 pub returns-in-Some-clause-kept : goal.returns-in-Some-clause-kept
 returns-in-Some-clause-kept g c =
     subst
-    (λ (o : Option Row). ¬ ((command_of o).opens) → KeepsStore g.B.Board c.args.board.now c.finish-in-Some.new.board)
+    (λ (o : Option Row). ¬ ((command_of o).opens) → KeepsStore g.B.Printer c.args.board.now c.finish-in-Some.new.board)
     c.in-Some.ensures
-    (λ not. keeps_then g.B.Board c.args.board.now c.carry_out-ended.new.board c.finish-in-Some.new.board
+    (λ not. keeps_then g.B.Printer c.args.board.now c.carry_out-ended.new.board c.finish-in-Some.new.board
     (c.carry_out-ended.ensures.carries.kept not) c.finish-in-Some.ensures.store)
 
 pub returns-in-Some-clause-at_rest : goal.returns-in-Some-clause-at_rest
 returns-in-Some-clause-at_rest g c =
-    subst (λ (o : Option Row). (command_of o).told g.F.Files.tells g.B.Board.tells_image → g.B.Board.tells_image →
+    subst (λ (o : Option Row). (command_of o).told g.F.Files.tells g.B.Printer.tells_image → g.B.Printer.tells_image →
     (command_of o).opens → c.finish-in-Some.result ≢ 8
-    → IsAtRest g.B.Board c.finish-in-Some.new.board)
+    → IsAtRest g.B.Printer c.finish-in-Some.new.board)
     c.in-Some.ensures
-    (rests_after g.F.Files g.B.Board c.args.files.now c.carry_out-ended.new.files c.args.board.now
+    (rests_after g.F.Files g.B.Printer c.args.files.now c.carry_out-ended.new.files c.args.board.now
     c.carry_out-ended.new.board c.finish-in-Some.new.board
     c.carry_out-ended.result c.finish-in-Some.result (cause_carried c.carry_out-ended.ensures.carries)
     c.finish-in-Some.ensures.count c.finish-in-Some.ensures.ends
@@ -165,39 +165,41 @@ returns-in-None-clause-at_rest g c =
 
 pub returns-in-Some-clause-looks : goal.returns-in-Some-clause-looks
 returns-in-Some-clause-looks g c =
-    subst (λ (o : Option Row). IsReadOnlyRow o → g.B.Board.tells_image
-    → LeavesImage g.B.Board (c.finish-in-Some.result ≡ 8) c.args.board.now c.finish-in-Some.new.board)
+    subst (λ (o : Option Row). IsReadOnlyRow o → g.B.Printer.tells_image
+    → LeavesImage g.B.Printer (c.finish-in-Some.result ≡ 8) c.args.board.now c.finish-in-Some.new.board)
     c.in-Some.ensures
-    (λ looks told. unwritten-finished g.B.Board c.args.board.now c.carry_out-ended.new.board c.finish-in-Some.new.board
+    (λ looks told. unwritten-finished g.B.Printer c.args.board.now c.carry_out-ended.new.board
+    c.finish-in-Some.new.board
     c.carry_out-ended.result c.finish-in-Some.result
     _ _ _ _ (c.carry_out-ended.ensures.carries.looks looks told)
-    (g.met.B.Board.only_now c.carry_out-ended.new.board) c.finish-in-Some.ensures.store c.finish-in-Some.ensures.silent
+    (g.met.B.Printer.only_now c.carry_out-ended.new.board) c.finish-in-Some.ensures.store
+    c.finish-in-Some.ensures.silent
     c.finish-in-Some.ensures.ends)
 
 pub returns-in-Some-clause-steps : goal.returns-in-Some-clause-steps
 returns-in-Some-clause-steps g c =
     let rest = g.F.Files.rest in
-    let image = g.B.Board.image c.args.board.now in
-    subst (λ (o : Option Row). (command_of o).steps g.F.Files.tells g.B.Board.tells_image (rest c.args.files.now)
+    let image = g.B.Printer.image c.args.board.now in
+    subst (λ (o : Option Row). (command_of o).steps g.F.Files.tells g.B.Printer.tells_image (rest c.args.files.now)
     (rest c.carry_out-ended.new.files) image c.args.steps.now c.finish-in-Some.new.steps)
     c.in-Some.ensures
     (c.carry_out-ended.ensures.carries.steps c.finish-in-Some.new.steps c.finish-in-Some.ensures.steps)
 
 pub returns-in-Some-clause-board_fault : goal.returns-in-Some-clause-board_fault
 returns-in-Some-clause-board_fault g c =
-    board_counts g.B.Board c.args.board.now c.carry_out-ended.new.board c.finish-in-Some.new.board
+    board_counts g.B.Printer c.args.board.now c.carry_out-ended.new.board c.finish-in-Some.new.board
     c.carry_out-ended.result
     c.finish-in-Some.result (cause_carried c.carry_out-ended.ensures.carries) c.finish-in-Some.ensures.count
     c.finish-in-Some.ensures.ends
 
 pub returns-in-None-clause-board_fault : goal.returns-in-None-clause-board_fault
 returns-in-None-clause-board_fault g c =
-    board_counts g.B.Board c.args.board.now c.args.board.now c.finish.new.board ended.BadWords c.finish.result
+    board_counts g.B.Printer c.args.board.now c.args.board.now c.finish.new.board ended.BadWords c.finish.result
     (record { count = λ good. refl; failed = λ failed. absurd cc }) c.finish.ensures.count c.finish.ensures.ends
 
 pub returns-in-Some-clause-unfailed : goal.returns-in-Some-clause-unfailed
 returns-in-Some-clause-unfailed g c =
-    files_left g.B.Board c.args.board.now c.carry_out-ended.new.board c.finish-in-Some.new.board
+    files_left g.B.Printer c.args.board.now c.carry_out-ended.new.board c.finish-in-Some.new.board
     c.carry_out-ended.result
     c.finish-in-Some.result (cause_carried c.carry_out-ended.ensures.carries) c.finish-in-Some.ensures.count
     c.finish-in-Some.ensures.ends (g.F.Files.faults c.args.files.now) (g.F.Files.faults c.carry_out-ended.new.files)

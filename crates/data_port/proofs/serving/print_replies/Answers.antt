@@ -6,7 +6,7 @@ use Rattle.data_port.proofs.serving.print_replies.Goals as goal
 
 pub loop-request-preserved : goal.loop-request-preserved
 loop-request-preserved g c =
-    let printed = g.B.Board.printed in
+    let printed = g.B.Printer.printed in
     record {
       printed = λ tells. printed_one c.args.durable.now c.args.seal.now (printed c.args.board.now)
           (printed c.loop-request.board)
@@ -14,14 +14,14 @@ loop-request-preserved g c =
           c.loop-request-test.true c.request-item.is (c.loop-request.invariant.printed tells)
           (c.in_ok-print_reply.ensures.whole tells);
       faults = c.in_ok-print_reply.ensures.cause.kept (refl {a = true}) ∙ c.loop-request.invariant.faults;
-      store = keeps_then g.B.Board c.args.board.now c.loop-request.board c.print_reply.new.board
+      store = keeps_then g.B.Printer c.args.board.now c.loop-request.board c.print_reply.new.board
           c.loop-request.invariant.store c.print_reply.ensures.store;
       steps = omega (arith, c.loop-request.invariant.steps, c.print_reply.ensures.steps);
     }
 
 pub returns-in_err-print_reply-clause-begun : goal.returns-in_err-print_reply-clause-begun
 returns-in_err-print_reply-clause-begun g c = λ tells.
-    let printed = g.B.Board.printed in
+    let printed = g.B.Printer.printed in
     begun_one c.args.durable.now c.args.seal.now (printed c.args.board.now) (printed c.loop-request.board)
     (printed c.print_reply.new.board) c.args.requests.now c.loop-request.request-index c.request-item.result
     c.loop-request-test.true c.request-item.is (c.loop-request.invariant.printed tells)
@@ -37,16 +37,16 @@ pub returns-clause-whole : goal.returns-clause-whole
 returns-clause-whole g c = λ tells.
     let all : length c.args.requests.now ≤ c.loop-request.request-index = omega (arith, c.loop-request-test.false) in
     whole_at c.args.durable.now c.args.seal.now c.args.requests.now c.loop-request.request-index
-    (g.B.Board.printed c.args.board.now) (g.B.Board.printed c.loop-request.board) all
+    (g.B.Printer.printed c.args.board.now) (g.B.Printer.printed c.loop-request.board) all
     (c.loop-request.invariant.printed tells)
 
 pub returns-clause-begun : goal.returns-clause-begun
 returns-clause-begun g c = λ tells.
     let all : length c.args.requests.now ≤ c.loop-request.request-index = omega (arith, c.loop-request-test.false) in
-    begins_whole (g.B.Board.printed c.args.board.now) (g.B.Board.printed c.loop-request.board)
+    begins_whole (g.B.Printer.printed c.args.board.now) (g.B.Printer.printed c.loop-request.board)
     (replies c.args.durable.now c.args.seal.now c.args.requests.now)
-    (whole_at c.args.durable.now c.args.seal.now c.args.requests.now c.loop-request.request-index (g.B.Board.printed
-    c.args.board.now) (g.B.Board.printed c.loop-request.board) all (c.loop-request.invariant.printed tells))
+    (whole_at c.args.durable.now c.args.seal.now c.args.requests.now c.loop-request.request-index (g.B.Printer.printed
+    c.args.board.now) (g.B.Printer.printed c.loop-request.board) all (c.loop-request.invariant.printed tells))
 
 pub returns-in_err-print_reply-clause-whole : goal.returns-in_err-print_reply-clause-whole
 returns-in_err-print_reply-clause-whole g c tells = on_failed c.from_residual.result _ c.from_residual.ensures.0
@@ -56,7 +56,7 @@ returns-in_err-print_reply-clause-steps g c = steps_within _ _ _ c.loop-request.
     c.loop-request.invariant.steps c.print_reply.ensures.steps
 
 pub returns-in_err-print_reply-clause-store : goal.returns-in_err-print_reply-clause-store
-returns-in_err-print_reply-clause-store g c = keeps_then g.B.Board c.args.board.now c.loop-request.board
+returns-in_err-print_reply-clause-store g c = keeps_then g.B.Printer c.args.board.now c.loop-request.board
     c.print_reply.new.board c.loop-request.invariant.store c.print_reply.ensures.store
 
 pub returns-clause-store : goal.returns-clause-store

@@ -32,7 +32,7 @@ returns-in_err-serve_piece-clause-serves g c =
     size_of_front c.front-bytes.result.now c.read_piece.new.piece c.in-Ok.count c.min-most.result c.loop-left.left
     c.front-bytes.ensures c.in-Ok.ensures.within c.min-most.ensures c.read_piece.array_long in
     rw (p.1, p.2) (served_err c.loop-left.invariant.so_far c.in_err-serve_piece.field-0.0 c.serve_piece.new.port
-    c.front-bytes.result.now (g.F.Files.rest c.read_piece.new.files c.args.word) (g.B.Board.printed
+    c.front-bytes.result.now (g.F.Files.rest c.read_piece.new.files c.args.word) (g.B.Printer.printed
     c.serve_piece.new.board) (omega (arith, size, c.in-Ok.ensures.within, c.min-most.ensures))
     (λ k. rw c.front-bytes.ensures (c.in-Ok.ensures.taken k)) c.in_err-serve_piece.ensures.serves)
 
@@ -50,13 +50,13 @@ loop-left-init g c = record {
     count = ap (λ (s : Standing). s.taken) c.new-port.ensures.new;
     room = omega arith;
     split = λ k. refl;
-    shown = λ t. sym (append-nil (g.B.Board.printed c.args.board.now));
+    shown = λ t. sym (append-nil (g.B.Printer.printed c.args.board.now));
     bounded = omega arith;
   };
   others = λ other ne. refl;
   counts = λ other. refl;
   faults = refl;
-  store = keeps_none g.B.Board c.args.board.now;
+  store = keeps_none g.B.Printer c.args.board.now;
 }
 
 pub loop-left-preserved : goal.loop-left-preserved
@@ -69,14 +69,14 @@ loop-left-preserved g c =
     let serves = c.in_ok-serve_piece.ensures.serves in
     record {
       so_far = served_more c.loop-left.invariant.so_far c.serve_piece.new.port c.front-bytes.result.now (g.F.Files.rest
-          c.read_piece.new.files c.args.word) (g.B.Board.printed c.serve_piece.new.board) (c.loop-left.left
+          c.read_piece.new.files c.args.word) (g.B.Printer.printed c.serve_piece.new.board) (c.loop-left.left
           - c.in-Ok.count) c.serve_piece.new.steps (λ k. rw c.front-bytes.ensures (c.in-Ok.ensures.taken k)) serves.0
           serves.1 fewer serves.2 c.serve_piece.ensures.steps;
       others = λ other ne. c.read_piece.ensures.others other ne ∙ c.loop-left.invariant.others other ne;
       counts = λ other. left_by_ok c.read_piece.result _ c.in-Ok.is (c.read_piece.ensures.counts other)
           ∙ c.loop-left.invariant.counts other;
       faults = c.in_ok-serve_piece.ensures.board_fault.kept (λ no. absurd cc) ∙ c.loop-left.invariant.faults;
-      store = keeps_then g.B.Board c.args.board.now c.loop-left.board c.serve_piece.new.board
+      store = keeps_then g.B.Printer c.args.board.now c.loop-left.board c.serve_piece.new.board
           c.loop-left.invariant.store c.serve_piece.ensures.store;
     }
 
@@ -104,7 +104,7 @@ pub returns-clause-store : goal.returns-clause-store
 returns-clause-store g c = c.loop-left.invariant.store
 
 pub returns-in_err-serve_piece-clause-store : goal.returns-in_err-serve_piece-clause-store
-returns-in_err-serve_piece-clause-store g c = keeps_then g.B.Board c.args.board.now c.loop-left.board
+returns-in_err-serve_piece-clause-store g c = keeps_then g.B.Printer c.args.board.now c.loop-left.board
     c.serve_piece.new.board c.loop-left.invariant.store c.serve_piece.ensures.store
 
 pub returns-clause-others : goal.returns-clause-others

@@ -7,7 +7,7 @@ use Rattle.data_port.proofs.serving.serve_piece.Goals as goal
 
 pub returns-then-is_err-clause-serves : goal.returns-then-is_err-clause-serves
 returns-then-is_err-clause-serves g c =
-    piece_begun c.loop-rest.invariant.so_far (g.B.Board.printed c.print_replies.new.board)
+    piece_begun c.loop-rest.invariant.so_far (g.B.Printer.printed c.print_replies.new.board)
     (piece_starts c.loop-rest.invariant.so_far c.new-requests.ensures c.as_slice.ensures.value c.requires.sense
     c.feed-fed.result c.feed-fed.ensures.requests c.feed-fed.ensures.bad) c.print_replies.ensures.begun
 
@@ -19,7 +19,7 @@ returns-then-is_err-clause-steps g c =
 
 pub returns-in-Err-clause-serves : goal.returns-in-Err-clause-serves
 returns-in-Err-clause-serves g c =
-    piece_bad c.loop-rest.invariant.so_far (g.B.Board.printed c.print_replies.new.board) c.new-requests.ensures
+    piece_bad c.loop-rest.invariant.so_far (g.B.Printer.printed c.print_replies.new.board) c.new-requests.ensures
     c.as_slice.ensures.value c.requires.sense c.in-Err.bad.place c.in-Err.ensures.bad (λ t. ok_of c.print_replies.result
     _ (sym c.is_err.ensures.value ∙ c.if-is_err.false) (c.print_replies.ensures.whole t))
 
@@ -31,24 +31,25 @@ returns-in-Err-clause-steps g c =
 
 pub loop-rest-preserved : goal.loop-rest-preserved
 loop-rest-preserved g c = record {
-  so_far = piece_more c.loop-rest.invariant.so_far c.feed-fed.new.self (g.B.Board.printed c.print_replies.new.board)
+  so_far = piece_more c.loop-rest.invariant.so_far c.feed-fed.new.self (g.B.Printer.printed c.print_replies.new.board)
       c.print_replies.new.steps c.in-Ok.count c.new-requests.ensures c.as_slice.ensures.value c.requires.sense
       c.in-Ok.ensures.within c.behind-left.ensures c.in-Ok.ensures.taken c.in-Ok.ensures.requests
       c.in-Ok.ensures.stands.2 c.in-Ok.ensures.count (λ t. ok_of c.print_replies.result _
       (sym c.is_err.ensures.value ∙ c.if-is_err.false) (c.print_replies.ensures.whole t)) c.print_replies.ensures.steps;
   faults = left_if_not c.print_replies.result (sym c.is_err.ensures.value ∙ c.if-is_err.false)
       c.print_replies.ensures.cause ∙ c.loop-rest.invariant.faults;
-  store = keeps_then g.B.Board c.args.board.now c.loop-rest.board c.print_replies.new.board c.loop-rest.invariant.store
+  store = keeps_then g.B.Printer c.args.board.now c.loop-rest.board c.print_replies.new.board
+      c.loop-rest.invariant.store
       c.print_replies.ensures.store;
 }
 
 pub loop-rest-init : goal.loop-rest-init
 loop-rest-init g c =
     record {
-      so_far = piece_opens g.B.Board.tells_text c.args.durable.now c.args.seal.now c.args.port.now c.args.piece.now
-          (g.B.Board.printed c.args.board.now) c.args.steps.now c.requires.going;
+      so_far = piece_opens g.B.Printer.tells_text c.args.durable.now c.args.seal.now c.args.port.now c.args.piece.now
+          (g.B.Printer.printed c.args.board.now) c.args.steps.now c.requires.going;
       faults = refl;
-      store = keeps_none g.B.Board c.args.board.now;
+      store = keeps_none g.B.Printer c.args.board.now;
     }
 
 pub feed-fed-requires : goal.feed-fed-requires
@@ -70,11 +71,12 @@ pub behind-left-requires : goal.behind-left-requires
 behind-left-requires g c = c.in-Ok.ensures.within
 
 pub returns-then-is_err-clause-store : goal.returns-then-is_err-clause-store
-returns-then-is_err-clause-store g c = keeps_then g.B.Board c.args.board.now c.loop-rest.board c.print_replies.new.board
+returns-then-is_err-clause-store g c = keeps_then g.B.Printer c.args.board.now c.loop-rest.board
+    c.print_replies.new.board
     c.loop-rest.invariant.store c.print_replies.ensures.store
 
 pub returns-in-Err-clause-store : goal.returns-in-Err-clause-store
-returns-in-Err-clause-store g c = keeps_then g.B.Board c.args.board.now c.loop-rest.board c.print_replies.new.board
+returns-in-Err-clause-store g c = keeps_then g.B.Printer c.args.board.now c.loop-rest.board c.print_replies.new.board
     c.loop-rest.invariant.store c.print_replies.ensures.store
 
 pub returns-clause-store : goal.returns-clause-store

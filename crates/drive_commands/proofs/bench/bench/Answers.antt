@@ -18,17 +18,17 @@ three-one e = absurd (omega (arith, e))
 -- there are no terms
 pub returns-in-Err : goal.returns-in-Err
 returns-in-Err g c =
-    carries-looked g.F.Files g.B.Board bench_command c.args.files.now c.open_terms.new.files c.args.board.now
+    carries-looked g.F.Files g.B.Printer bench_command c.args.files.now c.open_terms.new.files c.args.board.now
     c.open_terms.new.board c.args.steps.now c.open_terms.new.steps c.in-Err.why tt (λ status w. w)
     (λ known. let tells = known.0 in let told = known.1 in
     let rest = g.F.Files.rest in
     let faults = g.F.Files.faults in
-    let printed = g.B.Board.printed in
+    let printed = g.B.Printer.printed in
     let files = c.args.files.now in
     let mid = c.open_terms.new.files in
-    course-no_terms (rest files) (rest mid) (g.B.Board.image c.args.board.now)
+    course-no_terms (rest files) (rest mid) (g.B.Printer.image c.args.board.now)
     (λ word. Rose (faults files word) (faults mid word))
-    (Rose (g.B.Board.faults c.args.board.now) (g.B.Board.faults c.open_terms.new.board)) g.B.Board.tells_text
+    (Rose (g.B.Printer.faults c.args.board.now) (g.B.Printer.faults c.open_terms.new.board)) g.B.Printer.tells_text
     (printed c.args.board.now) (printed c.open_terms.new.board)
     (record { bytes = sym (c.open_terms.ensures.others 2 two-one) }) c.open_terms.ensures.opens.reads.text c.in-Err.why
     (c.in-Err.ensures.refused tells told))
@@ -45,12 +45,12 @@ returns-in-Err g c =
     (λ read good. c.open_terms.ensures.counts (λ f. read (same_fault c.open_terms.result c.in-Err.why ended.ReadFault
     c.in-Err.is f)))
     (record {
-      bytes = bytes-read g.B.Board c.args.board.now c.open_terms.new.board c.open_terms.ensures.opens.reads;
+      bytes = bytes-read g.B.Printer c.args.board.now c.open_terms.new.board c.open_terms.ensures.opens.reads;
       same = λ good. c.open_terms.ensures.opens.same
           (λ f. good (same_fault c.open_terms.result c.in-Err.why ended.BoardFault c.in-Err.is f));
       looks = λ told.
           let opened = c.open_terms.ensures.opens in
-          unwritten-only g.B.Board _ c.in-Err.why c.args.board.now c.open_terms.new.board
+          unwritten-only g.B.Printer _ c.in-Err.why c.args.board.now c.open_terms.new.board
           (λ e. same_fault c.open_terms.result c.in-Err.why ended.BoardFault c.in-Err.is e)
           (opened.synced told) opened.same (opened.settled told);
     })
@@ -58,12 +58,12 @@ returns-in-Err g c =
 -- nothing is judged
 pub returns-in-Err-judge_drive : goal.returns-in-Err-judge_drive
 returns-in-Err-judge_drive g c =
-    carries-looked g.F.Files g.B.Board bench_command c.args.files.now c.judge_drive.new.files c.args.board.now
+    carries-looked g.F.Files g.B.Printer bench_command c.args.files.now c.judge_drive.new.files c.args.board.now
     c.open_terms.new.board c.args.steps.now c.open_terms.new.steps c.in-Err-judge_drive.why tt (λ status w. w)
     (λ known. let tells = known.0 in let told = known.1 in
     let rest = g.F.Files.rest in
     let faults = g.F.Files.faults in
-    let printed = g.B.Board.printed in
+    let printed = g.B.Printer.printed in
     let files = c.args.files.now in
     let mid = c.open_terms.new.files in
     let new = c.judge_drive.new.files in
@@ -87,9 +87,9 @@ returns-in-Err-judge_drive g c =
       c.open_terms.ensures.counts
           (no_fault c.open_terms.result c.in-Ok.terms ended.ReadFault c.in-Ok.is) 3,
     )) why of_files in
-    course-not_judged (rest files) (rest new) (g.B.Board.image c.args.board.now)
+    course-not_judged (rest files) (rest new) (g.B.Printer.image c.args.board.now)
     (λ word. Rose (faults files word) (faults new word))
-    (Rose (g.B.Board.faults c.args.board.now) (g.B.Board.faults c.open_terms.new.board)) g.B.Board.tells_text
+    (Rose (g.B.Printer.faults c.args.board.now) (g.B.Printer.faults c.open_terms.new.board)) g.B.Printer.tells_text
     (printed c.args.board.now) (printed c.open_terms.new.board)
     terms (c.in-Ok.ensures.found tells told) why c.open_terms.ensures.opens.reads.text later)
     (λ later le tells told. omega (arith, le, c.open_terms.ensures.steps))
@@ -135,46 +135,46 @@ returns-in-Err-judge_drive g c =
     ∙ c.open_terms.ensures.others word (λ e. not (inl e)))
     (λ known. let rest = g.F.Files.rest in
     unread-terms (rest c.args.files.now) (rest c.open_terms.new.files) (rest c.judge_drive.new.files)
-    (g.B.Board.image c.args.board.now) (terms_in c.in-Ok.terms)
+    (g.B.Printer.image c.args.board.now) (terms_in c.in-Ok.terms)
     (c.in-Ok.ensures.found known.0 known.1) (c.open_terms.ensures.others 2 two-one)
     (c.open_terms.ensures.unread known.1) (c.judge_drive.ensures.reads.unread known.0))
     (λ read good word. c.judge_drive.ensures.reads.counts (λ f. read
     (same_fault c.judge_drive.result c.in-Err-judge_drive.why ended.ReadFault c.in-Err-judge_drive.is f)) word
     ∙ c.open_terms.ensures.counts (no_fault c.open_terms.result c.in-Ok.terms ended.ReadFault c.in-Ok.is) word)
     (record {
-      bytes = bytes-read g.B.Board c.args.board.now c.open_terms.new.board c.open_terms.ensures.opens.reads;
+      bytes = bytes-read g.B.Printer c.args.board.now c.open_terms.new.board c.open_terms.ensures.opens.reads;
       same = λ good.
           c.open_terms.ensures.opens.same (no_fault c.open_terms.result c.in-Ok.terms ended.BoardFault c.in-Ok.is);
       looks = λ told.
           let opened = c.open_terms.ensures.opens in
           let went = no_fault c.open_terms.result c.in-Ok.terms ended.BoardFault c.in-Ok.is in
-          unwritten-only g.B.Board _ c.in-Err-judge_drive.why c.args.board.now c.open_terms.new.board
+          unwritten-only g.B.Printer _ c.in-Err-judge_drive.why c.args.board.now c.open_terms.new.board
           (λ e. absurd (went e)) (opened.synced told) opened.same (opened.settled told);
     })
 
 -- the report is printed
 pub returns-in-Ok-print_text : goal.returns-in-Ok-print_text
 returns-in-Ok-print_text g c =
-    carries-looked g.F.Files g.B.Board bench_command c.args.files.now c.judge_drive.new.files c.args.board.now
+    carries-looked g.F.Files g.B.Printer bench_command c.args.files.now c.judge_drive.new.files c.args.board.now
     c.print_text.new.board c.args.steps.now c.print_text.new.steps c.ended.result tt (λ status w. w)
     (λ known. let tells = known.0 in let told = known.1 in
     let rest = g.F.Files.rest in
     let j = has_judged (rest c.args.files.now) (rest c.open_terms.new.files) (rest c.judge_drive.new.files)
-    (g.B.Board.image c.args.board.now) (c.in-Ok.ensures.found tells told) (c.in-Ok.ensures.ended tells)
+    (g.B.Printer.image c.args.board.now) (c.in-Ok.ensures.found tells told) (c.in-Ok.ensures.ended tells)
     c.open_terms.ensures.others c.judge_drive.ensures.reads.others (c.in-Ok-judge_drive.ensures.judged tells)
     (c.in-Ok-judge_drive.ensures.ended tells) in
-    subst (λ (end : Ended). EndsOnDevices g.F.Files g.B.Board bench_command c.args.files.now c.judge_drive.new.files
+    subst (λ (end : Ended). EndsOnDevices g.F.Files g.B.Printer bench_command c.args.files.now c.judge_drive.new.files
     c.args.board.now c.print_text.new.board end) (sym c.ended.ensures)
-    (course-judged (rest c.args.files.now) (rest c.judge_drive.new.files) (g.B.Board.image c.args.board.now) _ _
-    g.B.Board.tells_text (g.B.Board.printed c.args.board.now) (g.B.Board.printed c.print_text.new.board) j
+    (course-judged (rest c.args.files.now) (rest c.judge_drive.new.files) (g.B.Printer.image c.args.board.now) _ _
+    g.B.Printer.tells_text (g.B.Printer.printed c.args.board.now) (g.B.Printer.printed c.print_text.new.board) j
     (λ t. c.in-Ok-print_text.ensures.whole t
     ∙ ap (λ (x : List ℕ). x ++ c.as_slice.result.now) c.open_terms.ensures.opens.reads.text
-    ∙ ap (λ (x : List ℕ). g.B.Board.printed c.args.board.now ++ x) c.as_slice.ensures.value)))
+    ∙ ap (λ (x : List ℕ). g.B.Printer.printed c.args.board.now ++ x) c.as_slice.ensures.value)))
     (λ later le tells told.
     let rest = g.F.Files.rest in
-    let bound = steps-judged (rest c.args.files.now) (rest c.judge_drive.new.files) (g.B.Board.image c.args.board.now)
+    let bound = steps-judged (rest c.args.files.now) (rest c.judge_drive.new.files) (g.B.Printer.image c.args.board.now)
     (has_judged (rest c.args.files.now) (rest c.open_terms.new.files) (rest c.judge_drive.new.files)
-    (g.B.Board.image c.args.board.now) (c.in-Ok.ensures.found tells told) (c.in-Ok.ensures.ended tells)
+    (g.B.Printer.image c.args.board.now) (c.in-Ok.ensures.found tells told) (c.in-Ok.ensures.ended tells)
     c.open_terms.ensures.others c.judge_drive.ensures.reads.others (c.in-Ok-judge_drive.ensures.judged tells)
     (c.in-Ok-judge_drive.ensures.ended tells))
     c.as_slice.result.now _ _ _ c.open_terms.ensures.steps c.as_slice.ensures.value c.print_text.ensures.steps in
@@ -189,43 +189,43 @@ returns-in-Ok-print_text g c =
     ∙ c.open_terms.ensures.others word (λ e. not (inl e)))
     (λ known. let rest = g.F.Files.rest in
     unread-terms (rest c.args.files.now) (rest c.open_terms.new.files) (rest c.judge_drive.new.files)
-    (g.B.Board.image c.args.board.now) (terms_in c.in-Ok.terms)
+    (g.B.Printer.image c.args.board.now) (terms_in c.in-Ok.terms)
     (c.in-Ok.ensures.found known.0 known.1) (c.open_terms.ensures.others 2 two-one)
     (c.open_terms.ensures.unread known.1) (c.judge_drive.ensures.reads.unread known.0))
     (λ read good word. c.judge_drive.ensures.reads.counts (no_fault c.judge_drive.result c.in-Ok-judge_drive.judgement
     ended.ReadFault c.in-Ok-judge_drive.is) word
     ∙ c.open_terms.ensures.counts (no_fault c.open_terms.result c.in-Ok.terms ended.ReadFault c.in-Ok.is) word)
     (record {
-      bytes = bytes-then g.B.Board c.args.board.now c.open_terms.new.board c.print_text.new.board
-          (bytes-read g.B.Board c.args.board.now c.open_terms.new.board c.open_terms.ensures.opens.reads)
-          (bytes-kept g.B.Board c.open_terms.new.board c.print_text.new.board c.print_text.ensures.store);
+      bytes = bytes-then g.B.Printer c.args.board.now c.open_terms.new.board c.print_text.new.board
+          (bytes-read g.B.Printer c.args.board.now c.open_terms.new.board c.open_terms.ensures.opens.reads)
+          (bytes-kept g.B.Printer c.open_terms.new.board c.print_text.new.board c.print_text.ensures.store);
       same = λ good.
           c.print_text.ensures.store.same
           ∙ c.open_terms.ensures.opens.same (no_fault c.open_terms.result c.in-Ok.terms ended.BoardFault c.in-Ok.is);
       looks = λ told.
           let opened = c.open_terms.ensures.opens in
           let went = no_fault c.open_terms.result c.in-Ok.terms ended.BoardFault c.in-Ok.is in
-          unwritten-kept g.B.Board _ _ c.args.board.now c.open_terms.new.board c.print_text.new.board went
+          unwritten-kept g.B.Printer _ _ c.args.board.now c.open_terms.new.board c.print_text.new.board went
           (opened.synced told)
-          (g.met.B.Board.only_now c.open_terms.new.board) (opened.settled told went)
+          (g.met.B.Printer.only_now c.open_terms.new.board) (opened.settled told went)
           (opened.same went) c.print_text.ensures.store;
     })
 
 -- the board fails
 pub returns : goal.returns
 returns g c =
-    carries-looked g.F.Files g.B.Board bench_command c.args.files.now c.judge_drive.new.files c.args.board.now
+    carries-looked g.F.Files g.B.Printer bench_command c.args.files.now c.judge_drive.new.files c.args.board.now
     c.print_text.new.board c.args.steps.now c.print_text.new.steps ended.BoardFault tt (λ status w. w)
     (λ known. let tells = known.0 in let told = known.1 in
     let rest = g.F.Files.rest in
     let j = has_judged (rest c.args.files.now) (rest c.open_terms.new.files) (rest c.judge_drive.new.files)
-    (g.B.Board.image c.args.board.now) (c.in-Ok.ensures.found tells told) (c.in-Ok.ensures.ended tells)
+    (g.B.Printer.image c.args.board.now) (c.in-Ok.ensures.found tells told) (c.in-Ok.ensures.ended tells)
     c.open_terms.ensures.others c.judge_drive.ensures.reads.others (c.in-Ok-judge_drive.ensures.judged tells)
     (c.in-Ok-judge_drive.ensures.ended tells) in
     let last = c.print_text.new.board in
-    let printed = g.B.Board.printed in
+    let printed = g.B.Printer.printed in
     course-begun (rest c.args.files.now) (rest c.judge_drive.new.files)
-    (g.B.Board.image c.args.board.now) _ _ g.B.Board.tells_text (printed c.args.board.now) (printed last) j
+    (g.B.Printer.image c.args.board.now) _ _ g.B.Printer.tells_text (printed c.args.board.now) (printed last) j
     (λ t. subst (λ (x : List ℕ). Begins (printed c.args.board.now) (printed last) x) c.as_slice.ensures.value
     (subst (λ (x : List ℕ). Begins x (printed last) c.as_slice.result.now) c.open_terms.ensures.opens.reads.text
     (c.print_text.ensures.begun t)))
@@ -236,9 +236,9 @@ returns g c =
     )))
     (λ later le tells told.
     let rest = g.F.Files.rest in
-    let bound = steps-judged (rest c.args.files.now) (rest c.judge_drive.new.files) (g.B.Board.image c.args.board.now)
+    let bound = steps-judged (rest c.args.files.now) (rest c.judge_drive.new.files) (g.B.Printer.image c.args.board.now)
     (has_judged (rest c.args.files.now) (rest c.open_terms.new.files) (rest c.judge_drive.new.files)
-    (g.B.Board.image c.args.board.now) (c.in-Ok.ensures.found tells told) (c.in-Ok.ensures.ended tells)
+    (g.B.Printer.image c.args.board.now) (c.in-Ok.ensures.found tells told) (c.in-Ok.ensures.ended tells)
     c.open_terms.ensures.others c.judge_drive.ensures.reads.others (c.in-Ok-judge_drive.ensures.judged tells)
     (c.in-Ok-judge_drive.ensures.ended tells))
     c.as_slice.result.now _ _ _ c.open_terms.ensures.steps c.as_slice.ensures.value c.print_text.ensures.steps in
@@ -254,22 +254,22 @@ returns g c =
     ∙ c.open_terms.ensures.others word (λ e. not (inl e)))
     (λ known. let rest = g.F.Files.rest in
     unread-terms (rest c.args.files.now) (rest c.open_terms.new.files) (rest c.judge_drive.new.files)
-    (g.B.Board.image c.args.board.now) (terms_in c.in-Ok.terms)
+    (g.B.Printer.image c.args.board.now) (terms_in c.in-Ok.terms)
     (c.in-Ok.ensures.found known.0 known.1) (c.open_terms.ensures.others 2 two-one)
     (c.open_terms.ensures.unread known.1) (c.judge_drive.ensures.reads.unread known.0))
     (λ read good word. c.judge_drive.ensures.reads.counts (no_fault c.judge_drive.result c.in-Ok-judge_drive.judgement
     ended.ReadFault c.in-Ok-judge_drive.is) word
     ∙ c.open_terms.ensures.counts (no_fault c.open_terms.result c.in-Ok.terms ended.ReadFault c.in-Ok.is) word)
     (record {
-      bytes = bytes-then g.B.Board c.args.board.now c.open_terms.new.board c.print_text.new.board
-          (bytes-read g.B.Board c.args.board.now c.open_terms.new.board c.open_terms.ensures.opens.reads)
-          (bytes-kept g.B.Board c.open_terms.new.board c.print_text.new.board c.print_text.ensures.store);
+      bytes = bytes-then g.B.Printer c.args.board.now c.open_terms.new.board c.print_text.new.board
+          (bytes-read g.B.Printer c.args.board.now c.open_terms.new.board c.open_terms.ensures.opens.reads)
+          (bytes-kept g.B.Printer c.open_terms.new.board c.print_text.new.board c.print_text.ensures.store);
       same = λ good. absurd (good refl);
       looks = λ told.
           let opened = c.open_terms.ensures.opens in
           let went = no_fault c.open_terms.result c.in-Ok.terms ended.BoardFault c.in-Ok.is in
-          unwritten-kept g.B.Board _ ended.BoardFault c.args.board.now c.open_terms.new.board c.print_text.new.board
+          unwritten-kept g.B.Printer _ ended.BoardFault c.args.board.now c.open_terms.new.board c.print_text.new.board
           went (opened.synced told)
-          (g.met.B.Board.only_now c.open_terms.new.board) (opened.settled told went)
+          (g.met.B.Printer.only_now c.open_terms.new.board) (opened.settled told went)
           (opened.same went) c.print_text.ensures.store;
     })

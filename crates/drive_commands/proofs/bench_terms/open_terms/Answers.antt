@@ -11,9 +11,9 @@ pub returns-in_err-seal-clause-refused : goal.returns-in_err-seal-clause-refused
 returns-in_err-seal-clause-refused g c =
     let p = err_from_is_err_and c.from_residual.result c.from_residual.ensures.1 in
     rw (p.1, p.2) (λ tells told.
-    no_terms-barred (g.B.Board.image c.args.board.now) (g.F.Files.rest c.args.files.now 1)
+    no_terms-barred (g.B.Printer.image c.args.board.now) (g.F.Files.rest c.args.files.now 1)
     (Rose (g.F.Files.faults c.args.files.now 1) (g.F.Files.faults c.args.files.now 1))
-    (Rose (g.B.Board.faults c.args.board.now) (g.B.Board.faults c.open_sealed.new.board)) c.in_err-seal.field-0.0
+    (Rose (g.B.Printer.faults c.args.board.now) (g.B.Printer.faults c.open_sealed.new.board)) c.in_err-seal.field-0.0
     c.in_err-seal.ensures.barred
     (λ good. as_refused c.open_sealed.result _ c.in_err-seal.field-0.0 ended.BoardFault c.in_err-seal.was good
     (c.open_sealed.ensures.exact told)) (λ f. c.open_sealed.ensures.opens.cause (c.in_err-seal.was ∙ ap Err f)))
@@ -21,7 +21,7 @@ returns-in_err-seal-clause-refused g c =
 pub returns-in_err-seal-clause-opens : goal.returns-in_err-seal-clause-opens
 returns-in_err-seal-clause-opens g c =
     let p = err_from_is_err_and c.from_residual.result c.from_residual.ensures.1 in
-    rw (p.1, p.2) (opens-barred g.B.Board c.open_sealed.result _ c.in_err-seal.field-0.0 c.args.board.now
+    rw (p.1, p.2) (opens-barred g.B.Printer c.open_sealed.result _ c.in_err-seal.field-0.0 c.args.board.now
     c.open_sealed.new.board c.in_err-seal.was refl c.open_sealed.ensures.opens)
 
 pub returns-in_err-seal-clause-read_fault : goal.returns-in_err-seal-clause-read_fault
@@ -35,17 +35,17 @@ pub returns-in_err-checked-clause-refused : goal.returns-in_err-checked-clause-r
 returns-in_err-checked-clause-refused g c =
     let p = err_from_is_err_and c.from_residual-in_err-checked.result c.from_residual-in_err-checked.ensures.1 in
     rw (p.1, p.2) (λ tells told.
-    no_terms-tariff (g.B.Board.image c.args.board.now) (g.F.Files.rest c.args.files.now 1) _
+    no_terms-tariff (g.B.Printer.image c.args.board.now) (g.F.Files.rest c.args.files.now 1) _
     (as_found c.open_sealed.result _ _ ended.BoardFault c.in_ok-seal.was (c.open_sealed.ensures.exact told))
     (Rose (g.F.Files.faults c.args.files.now 1) (g.F.Files.faults c.read_sealed.new.files 1))
-    (Rose (g.B.Board.faults c.args.board.now) (g.B.Board.faults c.open_sealed.new.board))
+    (Rose (g.B.Printer.faults c.args.board.now) (g.B.Printer.faults c.open_sealed.new.board))
     c.in_err-checked.field-0.0 (c.read_sealed.ensures.refused c.in_err-checked.field-0.0 tells c.in_err-checked.was))
 
 pub returns-in_err-checked-clause-opens : goal.returns-in_err-checked-clause-opens
 returns-in_err-checked-clause-opens g c =
     let p = err_from_is_err_and c.from_residual-in_err-checked.result c.from_residual-in_err-checked.ensures.1 in
     rw (p.1, p.2)
-    (opens-behind g.B.Board c.open_sealed.result _ _ c.args.board.now c.open_sealed.new.board c.in_ok-seal.was
+    (opens-behind g.B.Printer c.open_sealed.result _ _ c.args.board.now c.open_sealed.new.board c.in_ok-seal.was
     (λ e. c.read_sealed.ensures.not_board (c.in_err-checked.was ∙ ap Err (same_fault _ _ _ refl e)))
     c.open_sealed.ensures.opens)
 
@@ -65,13 +65,13 @@ returns-in_err-checked-clause-counts g c =
 
 pub returns-clause-found : goal.returns-clause-found
 returns-clause-found g c = λ tells told.
-    terms_from (g.B.Board.image c.args.board.now) (g.F.Files.rest c.args.files.now 1) _
+    terms_from (g.B.Printer.image c.args.board.now) (g.F.Files.rest c.args.files.now 1) _
     (as_found c.open_sealed.result _ _ ended.BoardFault c.in_ok-seal.was (c.open_sealed.ensures.exact told))
     (Ok (tree_of c.in_ok-checked.checked)) (c.in_ok-checked.ensures.found tells)
 
 pub returns-clause-opens : goal.returns-clause-opens
 returns-clause-opens g c =
-    opens-behind g.B.Board c.open_sealed.result _ _ c.args.board.now c.open_sealed.new.board c.in_ok-seal.was
+    opens-behind g.B.Printer c.open_sealed.result _ _ c.args.board.now c.open_sealed.new.board c.in_ok-seal.was
     (no_fault _ _ _ refl) c.open_sealed.ensures.opens
 
 pub returns-clause-read_fault : goal.returns-clause-read_fault

@@ -14,11 +14,11 @@ returns-in-Err g c =
     let files' = c.explanation.new.files in
     let board = c.args.board.now in
     let steps = c.args.steps.now in
-    let image = g.B.Board.image board in
-    carries-kept g.F.Files g.B.Board explain_command files files' board board steps steps c.in-Err.why (λ none. none)
+    let image = g.B.Printer.image board in
+    carries-kept g.F.Files g.B.Printer explain_command files files' board board steps steps c.in-Err.why (λ none. none)
     (λ status w. w)
     (λ tells. course-unprinted explain_command (rest files) (rest files') image _ _ _
-    (g.B.Board.printed board) c.in-Err.why
+    (g.B.Printer.printed board) c.in-Err.why
     (c.explanation.ensures.refused c.in-Err.why image tells c.in-Err.is))
     (λ later le tells. omega (arith, le))
     (λ e. c.explanation.ensures.read_fault (c.in-Err.is ∙ ap Err e))
@@ -30,13 +30,13 @@ returns-in-Err g c =
     (c.explanation.ensures.unread image)
     (λ read good. c.explanation.ensures.counts
     (λ f. read (same_fault c.explanation.result c.in-Err.why ended.ReadFault c.in-Err.is f)))
-    (keeps_none g.B.Board board)
+    (keeps_none g.B.Printer board)
 
 -- the explanation is printed
 pub returns-in-Ok-print_text : goal.returns-in-Ok-print_text
 returns-in-Ok-print_text g c =
     let rest = g.F.Files.rest in
-    let printed = g.B.Board.printed in
+    let printed = g.B.Printer.printed in
     let files = c.args.files.now in
     let files' = c.explanation.new.files in
     let board = c.args.board.now in
@@ -45,16 +45,16 @@ returns-in-Ok-print_text g c =
     let made : g.F.Files.tells → HasExplained (rest files) (rest files') text = λ tells.
     subst (λ (x : List ℕ). HasExplained (rest files) (rest files') x) (sym c.as_slice.ensures.value)
     (c.in-Ok.ensures.explained tells) in
-    carries-kept g.F.Files g.B.Board explain_command files files' board board' c.args.steps.now c.print_text.new.steps
+    carries-kept g.F.Files g.B.Printer explain_command files files' board board' c.args.steps.now c.print_text.new.steps
     ended.Done (λ none. none) (λ status w. w)
-    (λ tells. course-shown explain_command (rest files) (rest files') (g.B.Board.image board) _ _ _ (printed board)
+    (λ tells. course-shown explain_command (rest files) (rest files') (g.B.Printer.image board) _ _ _ (printed board)
     (printed board') text (explained_shown (rest files) (rest files') text (made tells)) (made tells).read
     c.in-Ok-print_text.ensures.whole)
     (λ later le tells.
     omega (arith, le, c.print_text.ensures.steps, explained_pieces (rest files) (rest files') text (made tells)))
     (λ e. absurd (done_not_read e)) (cause_done (c.in-Ok-print_text.ensures.cause.kept refl))
     c.explanation.ensures.others
-    (c.explanation.ensures.unread (g.B.Board.image board))
+    (c.explanation.ensures.unread (g.B.Printer.image board))
     (λ read good. c.explanation.ensures.counts (no_fault c.explanation.result c.in-Ok.text ended.ReadFault c.in-Ok.is))
     c.print_text.ensures.store
 
@@ -62,7 +62,7 @@ returns-in-Ok-print_text g c =
 pub returns : goal.returns
 returns g c =
     let rest = g.F.Files.rest in
-    let printed = g.B.Board.printed in
+    let printed = g.B.Printer.printed in
     let files = c.args.files.now in
     let files' = c.explanation.new.files in
     let board = c.args.board.now in
@@ -72,15 +72,15 @@ returns g c =
     let made : g.F.Files.tells → HasExplained (rest files) (rest files') text = λ tells.
     subst (λ (x : List ℕ). HasExplained (rest files) (rest files') x) (sym c.as_slice.ensures.value)
     (c.in-Ok.ensures.explained tells) in
-    carries-kept g.F.Files g.B.Board explain_command files files' board board' c.args.steps.now c.print_text.new.steps
+    carries-kept g.F.Files g.B.Printer explain_command files files' board board' c.args.steps.now c.print_text.new.steps
     ended.BoardFault (λ none. none) (λ status w. w)
-    (λ tells. course-begun explain_command (rest files) (rest files') (g.B.Board.image board) _ _ _ (printed board)
+    (λ tells. course-begun explain_command (rest files) (rest files') (g.B.Printer.image board) _ _ _ (printed board)
     (printed board') text (explained_shown (rest files) (rest files') text (made tells)) (made tells).read
     c.print_text.ensures.begun failed)
     (λ later le tells.
     omega (arith, le, c.print_text.ensures.steps, explained_pieces (rest files) (rest files') text (made tells)))
     (λ e. absurd (board_not_read e)) (cause_board failed)
     c.explanation.ensures.others
-    (c.explanation.ensures.unread (g.B.Board.image board))
+    (c.explanation.ensures.unread (g.B.Printer.image board))
     (λ read good. c.explanation.ensures.counts (no_fault c.explanation.result c.in-Ok.text ended.ReadFault c.in-Ok.is))
     c.print_text.ensures.store

@@ -20,16 +20,16 @@ untouched drive left e = record { bytes = sym e }
 
 pub returns-in-Err : goal.returns-in-Err
 returns-in-Err g c =
-    carries-kept g.F.Files g.B.Board (fare_command c.args.constant) c.args.files.now c.tables_of_word.new.files
+    carries-kept g.F.Files g.B.Printer (fare_command c.args.constant) c.args.files.now c.tables_of_word.new.files
     c.args.board.now c.args.board.now c.args.steps.now c.args.steps.now _ (λ none. none) (λ status w. w)
     (λ tells.
     let rest = g.F.Files.rest in
     let k = c.args.constant in
-    let image = g.B.Board.image c.args.board.now in
+    let image = g.B.Printer.image c.args.board.now in
     let found = tariff_in (rest c.args.files.now 1) in
     rw c.refused_by.ensures
     (course-unprinted (fare_command k) (rest c.args.files.now) (rest c.tables_of_word.new.files) image _ _ _
-    (g.B.Board.printed c.args.board.now) _
+    (g.B.Printer.printed c.args.board.now) _
     (course-refused (fare_command k) (rest c.args.files.now) (rest c.tables_of_word.new.files) image _
     (untouched (rest c.args.files.now 2) (rest c.tables_of_word.new.files 2)
     (c.tables_of_word.ensures.others 2 (two-one 2 refl))) refl (λ e. absurd cc) c.in-Err.fault
@@ -50,12 +50,13 @@ returns-in-Err g c =
     (λ word not. c.tables_of_word.ensures.others word (λ e. not (inl e)))
     (λ tells word never. c.tables_of_word.ensures.others word (λ e. never [] (inl (e, refl))))
     (unless_read c.tables_of_word.result c.in-Err.fault texts.ReadFault ended_for c.in-Err.is c.refused_by.ensures
-    refl c.tables_of_word.ensures.counts) (keeps_none g.B.Board c.args.board.now)
+    refl c.tables_of_word.ensures.counts) (keeps_none g.B.Printer c.args.board.now)
 
 pub returns : goal.returns
 returns g c =
-    carries-kept g.F.Files g.B.Board (fare_command c.args.constant) c.args.files.now c.dry_run-ran.new.files
-    c.args.board.now c.dry_run-ran.new.board c.args.steps.now c.dry_run-ran.new.steps _ (λ none. none) (λ status w. w)
+    carries-kept g.F.Files g.B.Printer (fare_command c.args.constant) c.args.files.now c.print_drive-ran.new.files
+    c.args.board.now c.print_drive-ran.new.board c.args.steps.now c.print_drive-ran.new.steps _ (λ none. none)
+    (λ status w. w)
     (λ tells.
     let rest = g.F.Files.rest in
     let k = c.args.constant in
@@ -63,7 +64,7 @@ returns g c =
     let t = made.tree in
     let tables = c.in-Ok.tables in
     let same = c.tables_of_word.ensures.others 2 (two-one 2 refl) in
-    let runs = rw same at (c.dry_run-ran.ensures.ends tells) in
+    let runs = rw same at (c.print_drive-ran.ensures.ends tells) in
     let seal = c.fare_seal-seal.result in
     let of_tariff : IsTariffOf (setting_of k t) tables =
     record {
@@ -79,21 +80,22 @@ returns g c =
       offsets = c.fare_seal-seal.ensures.offsets;
     } in
     let is : IsSettingOf (setting_of k t) tables seal = record { tariff = of_tariff; secured = of_seal } in
-    let read : rest c.dry_run-ran.new.files 1 ≡ [] =
-    c.dry_run-ran.ensures.others 1 (one-two 1 refl) ∙ c.in-Ok.ensures.ended tells in
+    let read : rest c.print_drive-ran.new.files 1 ≡ [] =
+    c.print_drive-ran.ensures.others 1 (one-two 1 refl) ∙ c.in-Ok.ensures.ended tells in
     rw c.ended_of.ensures
-    (course-ran k (rest c.args.files.now) (rest c.dry_run-ran.new.files) (g.B.Board.image c.args.board.now) _ _ _
-    (g.B.Board.printed c.args.board.now) (g.B.Board.printed c.dry_run-ran.new.board) tables seal t made.sound is read
-    c.dry_run-ran.result runs
+    (course-ran k (rest c.args.files.now) (rest c.print_drive-ran.new.files) (g.B.Printer.image c.args.board.now) _ _ _
+    (g.B.Printer.printed c.args.board.now) (g.B.Printer.printed c.print_drive-ran.new.board) tables seal t made.sound
+    is read
+    c.print_drive-ran.result runs
     (λ e. omega (
       arith,
-      c.dry_run-ran.ensures.read_fault e,
+      c.print_drive-ran.ensures.read_fault e,
       c.tables_of_word.ensures.counts
           (no_fault c.tables_of_word.result c.in-Ok.tables texts.ReadFault c.in-Ok.is) 2,
     ))
-    c.dry_run-ran.ensures.board_fault.rose))
+    c.print_drive-ran.ensures.board_fault.rose))
     (λ later le.
-    let h = c.dry_run-ran.ensures.steps in
+    let h = c.print_drive-ran.ensures.steps in
     record {
       taken = h.taken;
       few = h.few;
@@ -102,7 +104,8 @@ returns g c =
       bound = omega (arith, le, h.bound);
     })
     (λ e.
-    let failed = c.dry_run-ran.ensures.read_fault (read_fault-ran c.dry_run-ran.result (sym c.ended_of.ensures ∙ e)) in
+    let failed = c.print_drive-ran.ensures.read_fault (read_fault-ran c.print_drive-ran.result
+    (sym c.ended_of.ensures ∙ e)) in
     record {
       word = 2;
       reads = inr refl;
@@ -112,25 +115,25 @@ returns g c =
         c.tables_of_word.ensures.counts
             (no_fault c.tables_of_word.result c.in-Ok.tables texts.ReadFault c.in-Ok.is) 2,
       );
-      behind = λ other lt. c.dry_run-ran.ensures.others other (λ e. absurd (omega (arith, lt, e)))
+      behind = λ other lt. c.print_drive-ran.ensures.others other (λ e. absurd (omega (arith, lt, e)))
           ∙ c.tables_of_word.ensures.others other (λ e. absurd (omega (arith, lt, e)));
     })
     (record {
-      count = λ good. c.dry_run-ran.ensures.board_fault.kept (λ f. good (c.ended_of.ensures ∙ ap ended_by f));
-      failed = λ e. c.dry_run-ran.ensures.board_fault.rose (board_fault-ran c.dry_run-ran.result
+      count = λ good. c.print_drive-ran.ensures.board_fault.kept (λ f. good (c.ended_of.ensures ∙ ap ended_by f));
+      failed = λ e. c.print_drive-ran.ensures.board_fault.rose (board_fault-ran c.print_drive-ran.result
           (sym c.ended_of.ensures ∙ e));
     })
-    (λ word not. c.dry_run-ran.ensures.others word (λ e. not (inr e))
+    (λ word not. c.print_drive-ran.ensures.others word (λ e. not (inr e))
     ∙ c.tables_of_word.ensures.others word (λ e. not (inl e)))
     (λ tells word never.
     let made = c.in-Ok.ensures.found tells in
-    c.dry_run-ran.ensures.others word (λ e. never [] (inr (
+    c.print_drive-ran.ensures.others word (λ e. never [] (inr (
       e,
       record { tree = made.tree; sound = made.sound; going = begins_going },
     )))
     ∙ c.tables_of_word.ensures.others word (λ e. never [] (inl (e, refl))))
     (λ read good word.
-    (c.dry_run-ran.ensures.counts word).kept (λ failed. ⊎_elim (λ f. read (c.ended_of.ensures ∙ ap ended_by f))
+    (c.print_drive-ran.ensures.counts word).kept (λ failed. ⊎_elim (λ f. read (c.ended_of.ensures ∙ ap ended_by f))
     (λ f. good (c.ended_of.ensures ∙ ap ended_by f)) failed)
     ∙ c.tables_of_word.ensures.counts (no_fault c.tables_of_word.result c.in-Ok.tables texts.ReadFault c.in-Ok.is)
-    word) (c.dry_run-ran.ensures.store)
+    word) (c.print_drive-ran.ensures.store)

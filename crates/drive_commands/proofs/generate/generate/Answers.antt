@@ -10,20 +10,20 @@ use Rattle.drive_commands.proofs.generate.generate.Goals as goal
 
 pub returns-in-Err : goal.returns-in-Err
 returns-in-Err g c = λ contents.
-    carries-kept (no_files contents) g.B.Board (gen_command c.args.seed c.args.trips) tt tt c.args.board.now
+    carries-kept (no_files contents) g.B.Printer (gen_command c.args.seed c.args.trips) tt tt c.args.board.now
     c.args.board.now c.args.steps.now c.args.steps.now _ (λ none. none) (λ status w. w)
     (λ known.
-    let image = g.B.Board.image c.args.board.now in
+    let image = g.B.Printer.image c.args.board.now in
     rw c.refused_by.ensures
     (course-unprinted (gen_command c.args.seed c.args.trips) contents contents image _ _ _
-    (g.B.Board.printed c.args.board.now) _
+    (g.B.Printer.printed c.args.board.now) _
     (course-gen_refused c.args.seed c.args.trips contents contents image _ c.in-Err.fault
     (λ e. c.tables_of_text.ensures.read (c.in-Err.is ∙ ap Err e))
     (λ why e. subst (λ (x : List ℕ). tariff_in x ≡ Err why) c.city_tariff-text.ensures
     (c.tables_of_text.ensures.refused why (c.in-Err.is ∙ ap Err e))))))
     (λ later le. omega (arith, le)) (search rules)
     (search rules)
-    (λ word not. refl) (λ known word never. refl) (λ read good word. refl) (keeps_none g.B.Board c.args.board.now)
+    (λ word not. refl) (λ known word never. refl) (λ read good word. refl) (keeps_none g.B.Printer c.args.board.now)
 
 pub state_of_drive-durable-requires-clause-setting : goal.state_of_drive-durable-requires-clause-setting
 state_of_drive-durable-requires-clause-setting g c = let made = c.in-Ok.ensures.found in (
@@ -40,19 +40,20 @@ print-requires-clause-some g c =
 
 pub returns-in-Ok-print : goal.returns-in-Ok-print
 returns-in-Ok-print g c = λ contents.
-    carries-kept (no_files contents) g.B.Board (gen_command c.args.seed c.args.trips) tt tt c.args.board.now
+    carries-kept (no_files contents) g.B.Printer (gen_command c.args.seed c.args.trips) tt tt c.args.board.now
     c.print.new.self c.args.steps.now c.print.new.steps ended.Done (λ none. none) (λ status w. w)
     (λ known.
     let made = c.in-Ok.ensures.found in
     let t = made.tree in
-    let printed = g.B.Board.printed in
+    let printed = g.B.Printer.printed in
     let text =
     generated_text c.args.seed c.args.trips c.decimals-decimals.result c.state_of_drive-durable.result in
     let is = setting_is t c.in-Ok.tables c.gen_seal-seal.result made.compiled
     (made.value ∙ ap (tables_of made.tree) c.ten_thousand-constant.ensures)
     c.gen_seal-seal.ensures.constant c.gen_seal-seal.ensures.mode c.gen_seal-seal.ensures.hold
     c.gen_seal-seal.ensures.offsets in
-    course-gen c.args.seed c.args.trips contents contents (g.B.Board.image c.args.board.now) _ _ g.B.Board.tells_text
+    course-gen c.args.seed c.args.trips contents contents (g.B.Printer.image c.args.board.now) _ _
+    g.B.Printer.tells_text
     (printed c.args.board.now) (printed c.print.new.self) _ t
     (subst (λ (x : List ℕ). tariff_in x ≡ Ok t) c.city_tariff-text.ensures made.sound)
     (text_is c.args.seed c.args.trips c.decimals-decimals.result c.state_of_drive-durable.result t c.in-Ok.tables
@@ -64,25 +65,25 @@ returns-in-Ok-print g c = λ contents.
     (λ e. absurd (done_not_read e))
     (cause_done (c.in-Ok-print.ensures.cause.kept refl))
     (λ word not. refl) (λ known word never. refl) (λ read good word. refl)
-    (keeps_print g.B.Board c.args.board.now c.print.new.self _
+    (keeps_print g.B.Printer c.args.board.now c.print.new.self _
     c.print.ensures.image c.print.ensures.flight c.print.ensures.time)
 
 pub returns : goal.returns
 returns g c = λ contents.
-    carries-kept (no_files contents) g.B.Board (gen_command c.args.seed c.args.trips) tt tt c.args.board.now
+    carries-kept (no_files contents) g.B.Printer (gen_command c.args.seed c.args.trips) tt tt c.args.board.now
     c.print.new.self c.args.steps.now c.print.new.steps ended.BoardFault (λ none. none) (λ status w. w)
     (λ known.
     let made = c.in-Ok.ensures.found in
     let t = made.tree in
-    let printed = g.B.Board.printed in
+    let printed = g.B.Printer.printed in
     let text =
     generated_text c.args.seed c.args.trips c.decimals-decimals.result c.state_of_drive-durable.result in
     let is = setting_is t c.in-Ok.tables c.gen_seal-seal.result made.compiled
     (made.value ∙ ap (tables_of made.tree) c.ten_thousand-constant.ensures)
     c.gen_seal-seal.ensures.constant c.gen_seal-seal.ensures.mode c.gen_seal-seal.ensures.hold
     c.gen_seal-seal.ensures.offsets in
-    course-gen_begun c.args.seed c.args.trips contents contents (g.B.Board.image c.args.board.now) _ _
-    g.B.Board.tells_text (printed c.args.board.now) (printed c.print.new.self) _ t
+    course-gen_begun c.args.seed c.args.trips contents contents (g.B.Printer.image c.args.board.now) _ _
+    g.B.Printer.tells_text (printed c.args.board.now) (printed c.print.new.self) _ t
     (subst (λ (x : List ℕ). tariff_in x ≡ Ok t) c.city_tariff-text.ensures made.sound)
     (text_is c.args.seed c.args.trips c.decimals-decimals.result c.state_of_drive-durable.result t c.in-Ok.tables
     (made.value ∙ ap (tables_of made.tree) c.ten_thousand-constant.ensures) c.decimals-decimals.ensures.value
@@ -94,5 +95,5 @@ returns g c = λ contents.
     (λ e. absurd (board_not_read e))
     (cause_board (c.print.ensures.cause.failed (ap is_err c.in-Err-print.is)))
     (λ word not. refl) (λ known word never. refl) (λ read good word. refl)
-    (keeps_print g.B.Board c.args.board.now c.print.new.self _
+    (keeps_print g.B.Printer c.args.board.now c.print.new.self _
     c.print.ensures.image c.print.ensures.flight c.print.ensures.time)

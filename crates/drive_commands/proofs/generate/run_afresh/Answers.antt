@@ -33,14 +33,15 @@ returns-in-Ok-run_events-clause-state g c = λ tells told whole calm still s is.
     let tables = c.args.tables.now in
     let seal = c.args.seal.now in
     let placed = c.in-Ok.ensures.sealed told in
-    let opens : OpensWith g.B.Board tables c.place_seal.new.board first_state =
+    let opens : OpensWith g.B.Printer tables c.place_seal.new.board first_state =
     record {
       place = placed.totals.0;
       settled = placed.totals.1;
       fits = λ trip e. absurd (not_some first_state.hold trip refl e);
     } in
     let done = ((c.in-Ok-run_events.ensures.ends tells).runs told s first_state is opens).opens in
-    let stands : HasState (g.B.Board.image c.run_events.new.board) (state_after s (g.F.Files.rest c.args.files.now 0)) =
+    let stands : HasState (g.B.Printer.image c.run_events.new.board) (state_after s
+    (g.F.Files.rest c.args.files.now 0)) =
     at_stands totals.reads states.state_number_of 0 done.place _ _ done.settled.is_at in
     c.state_in.ensures.has told (λ rose. still (omega (
       arith,

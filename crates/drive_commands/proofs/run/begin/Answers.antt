@@ -12,9 +12,9 @@ pub returns-in_err-durable-clause-refused : goal.returns-in_err-durable-clause-r
 returns-in_err-durable-clause-refused g c =
     let p = err_from_is_err_and c.from_residual.result c.from_residual.ensures.1 in
     rw (p.1, p.2) (λ tells told.
-    not_begun-barred (g.B.Board.image c.args.board.now) (g.F.Files.rest c.args.files.now 1)
+    not_begun-barred (g.B.Printer.image c.args.board.now) (g.F.Files.rest c.args.files.now 1)
     (Rose (g.F.Files.faults c.args.files.now 1) (g.F.Files.faults c.args.files.now 1))
-    (Rose (g.B.Board.faults c.args.board.now) (g.B.Board.faults c.open_sealed.new.board)) c.in_err-durable.field-0.0
+    (Rose (g.B.Printer.faults c.args.board.now) (g.B.Printer.faults c.open_sealed.new.board)) c.in_err-durable.field-0.0
     c.in_err-durable.ensures.barred
     (λ good. as_refused c.open_sealed.result _ c.in_err-durable.field-0.0 ended.BoardFault c.in_err-durable.was good
     (c.open_sealed.ensures.exact told)) (λ f. c.open_sealed.ensures.opens.cause (c.in_err-durable.was ∙ ap Err f)))
@@ -22,7 +22,7 @@ returns-in_err-durable-clause-refused g c =
 pub returns-in_err-durable-clause-opens : goal.returns-in_err-durable-clause-opens
 returns-in_err-durable-clause-opens g c =
     let p = err_from_is_err_and c.from_residual.result c.from_residual.ensures.1 in
-    rw (p.1, p.2) (opens-barred g.B.Board c.open_sealed.result _ c.in_err-durable.field-0.0 c.args.board.now
+    rw (p.1, p.2) (opens-barred g.B.Printer c.open_sealed.result _ c.in_err-durable.field-0.0 c.args.board.now
     c.open_sealed.new.board c.in_err-durable.was refl c.open_sealed.ensures.opens)
 
 pub returns-in_err-durable-clause-read_fault : goal.returns-in_err-durable-clause-read_fault
@@ -36,9 +36,9 @@ pub returns-in_err-tables-clause-refused : goal.returns-in_err-tables-clause-ref
 returns-in_err-tables-clause-refused g c =
     let p = err_from_is_err_and c.from_residual-in_err-tables.result c.from_residual-in_err-tables.ensures.1 in
     rw (p.1, p.2) (λ tells told.
-    not_begun-tables (g.B.Board.image c.args.board.now) (g.F.Files.rest c.args.files.now 1)
+    not_begun-tables (g.B.Printer.image c.args.board.now) (g.F.Files.rest c.args.files.now 1)
     (Rose (g.F.Files.faults c.args.files.now 1) (g.F.Files.faults c.read_tables.new.files 1))
-    (Rose (g.B.Board.faults c.args.board.now) (g.B.Board.faults c.open_sealed.new.board))
+    (Rose (g.B.Printer.faults c.args.board.now) (g.B.Printer.faults c.open_sealed.new.board))
     (c.in_ok-durable.durable, c.in_ok-durable.seal)
     (as_found c.open_sealed.result _ (c.in_ok-durable.durable, c.in_ok-durable.seal) ended.BoardFault
     c.in_ok-durable.was (c.open_sealed.ensures.exact told))
@@ -47,7 +47,7 @@ returns-in_err-tables-clause-refused g c =
 pub returns-in_err-tables-clause-opens : goal.returns-in_err-tables-clause-opens
 returns-in_err-tables-clause-opens g c =
     let p = err_from_is_err_and c.from_residual-in_err-tables.result c.from_residual-in_err-tables.ensures.1 in
-    rw (p.1, p.2) (opens-behind g.B.Board c.open_sealed.result
+    rw (p.1, p.2) (opens-behind g.B.Printer c.open_sealed.result
     (c.in_ok-durable.durable, c.in_ok-durable.seal) _ c.args.board.now c.open_sealed.new.board c.in_ok-durable.was
     (λ e. c.read_tables.ensures.not_board (c.in_err-tables.was ∙ ap Err (same_fault _ _ _ refl e)))
     c.open_sealed.ensures.opens)
@@ -68,9 +68,9 @@ pub returns-then-not-hold_fits-clause-refused : goal.returns-then-not-hold_fits-
 returns-then-not-hold_fits-clause-refused g c = λ tells told.
     let made = c.in_ok-tables.ensures.found tells in
     let none : c.hold_fits.result ≡ false = search in
-    not_begun-trip (g.B.Board.image c.args.board.now) (g.F.Files.rest c.args.files.now 1)
+    not_begun-trip (g.B.Printer.image c.args.board.now) (g.F.Files.rest c.args.files.now 1)
     (Rose (g.F.Files.faults c.args.files.now 1) (g.F.Files.faults c.read_tables.new.files 1))
-    (Rose (g.B.Board.faults c.args.board.now) (g.B.Board.faults c.open_sealed.new.board))
+    (Rose (g.B.Printer.faults c.args.board.now) (g.B.Printer.faults c.open_sealed.new.board))
     (c.in_ok-durable.durable, c.in_ok-durable.seal)
     (as_found c.open_sealed.result _ (c.in_ok-durable.durable, c.in_ok-durable.seal) ended.BoardFault
     c.in_ok-durable.was (c.open_sealed.ensures.exact told)) made.tree made.accepted
@@ -79,7 +79,7 @@ returns-then-not-hold_fits-clause-refused g c = λ tells told.
 
 pub returns-then-not-hold_fits-clause-opens : goal.returns-then-not-hold_fits-clause-opens
 returns-then-not-hold_fits-clause-opens g c =
-    opens-behind g.B.Board c.open_sealed.result (c.in_ok-durable.durable, c.in_ok-durable.seal) _ c.args.board.now
+    opens-behind g.B.Printer c.open_sealed.result (c.in_ok-durable.durable, c.in_ok-durable.seal) _ c.args.board.now
     c.open_sealed.new.board c.in_ok-durable.was
     (λ e. ends_apart ended.BadTrip ended.BoardFault refl (same_fault _ _ _ refl e)) c.open_sealed.ensures.opens
 
@@ -98,7 +98,7 @@ pub returns-clause-begun : goal.returns-clause-begun
 returns-clause-begun g c = λ tells told.
     let store : Durable × Seal = (c.in_ok-durable.durable, c.in_ok-durable.seal) in
     let read_failed = Rose (g.F.Files.faults c.args.files.now 1) (g.F.Files.faults c.read_tables.new.files 1) in
-    let board_failed = Rose (g.B.Board.faults c.args.board.now) (g.B.Board.faults c.open_sealed.new.board) in
+    let board_failed = Rose (g.B.Printer.faults c.args.board.now) (g.B.Printer.faults c.open_sealed.new.board) in
     let found =
     as_found c.open_sealed.result _ store ended.BoardFault c.in_ok-durable.was (c.open_sealed.ensures.exact told) in
     let made = c.in_ok-tables.ensures.found tells in
@@ -106,7 +106,7 @@ returns-clause-begun g c = λ tells told.
     let settled = c.in_ok-durable.ensures.found told in
     record {
       start = record { durable = store.0; seal = store.1; tree = made.tree };
-      is = has_begun (g.B.Board.image c.args.board.now)
+      is = has_begun (g.B.Printer.image c.args.board.now)
           (g.F.Files.rest c.args.files.now 1) read_failed board_failed store found made.tree made.accepted
           (ap (λ (p : TableParts). does_hold_fit p store.0.hold) (sym made.value)
           ∙ sym c.hold_fits.ensures.value ∙ fits);
@@ -122,7 +122,7 @@ returns-clause-begun g c = λ tells told.
 
 pub returns-clause-opens : goal.returns-clause-opens
 returns-clause-opens g c =
-    opens-behind g.B.Board c.open_sealed.result (c.in_ok-durable.durable, c.in_ok-durable.seal) _ c.args.board.now
+    opens-behind g.B.Printer c.open_sealed.result (c.in_ok-durable.durable, c.in_ok-durable.seal) _ c.args.board.now
     c.open_sealed.new.board c.in_ok-durable.was (no_fault _ _ _ refl) c.open_sealed.ensures.opens
 
 pub returns-clause-read_fault : goal.returns-clause-read_fault

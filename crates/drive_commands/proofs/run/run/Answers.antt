@@ -18,7 +18,7 @@ pub returns-in-Err-clause-runs : goal.returns-in-Err-clause-runs
 returns-in-Err-clause-runs g c = λ tells told.
     let why = c.in-Err.why in
     let before = c.begin.ensures in
-    course-not_begun g.F.Files g.B.Board c.args.files.now c.begin.new.files c.args.board.now c.begin.new.board
+    course-not_begun g.F.Files g.B.Printer c.args.files.now c.begin.new.files c.args.board.now c.begin.new.board
     (before.others 2 (two-one 2 refl))
     (IsErrOf c.begin.result ended.BoardFault) before.opens.reads (before.opens.synced told) why
     (c.in-Err.ensures.refused tells told)
@@ -47,7 +47,7 @@ returns-in-Err-clause-carries g c =
       counts = λ read good. before.counts (λ f. read (same_fault c.begin.result c.in-Err.why ended.ReadFault
           c.in-Err.is f));
       kept = λ shut. absurd (shut tt);
-      unwritten = λ not. bytes-read g.B.Board c.args.board.now c.begin.new.board before.opens.reads;
+      unwritten = λ not. bytes-read g.B.Printer c.args.board.now c.begin.new.board before.opens.reads;
       same = λ not good.
           before.opens.same (λ f. good (same_fault c.begin.result c.in-Err.why ended.BoardFault c.in-Err.is f));
       fails = λ status w. inr (inr (inr refl));
@@ -73,25 +73,25 @@ returns-clause-runs g c = λ tells told.
       tariff = record { tree = s.tree; compiled = compiled; parts = refl; constant = refl };
       secured = record { constant = refl; mode = refl; hold_time = refl; offsets = refl };
     } in
-    let opens : OpensWith g.B.Board (tables_in s) mid s.durable =
-    subst (λ (p : TableParts). OpensWith g.B.Board p mid s.durable) begun.tables_are begun.opens in
-    let of_seal : EndsRun g.B.Board c.in-Ok.begun.tables s.seal mid new (rest c.begin.new.files 2)
+    let opens : OpensWith g.B.Printer (tables_in s) mid s.durable =
+    subst (λ (p : TableParts). OpensWith g.B.Printer p mid s.durable) begun.tables_are begun.opens in
+    let of_seal : EndsRun g.B.Printer c.in-Ok.begun.tables s.seal mid new (rest c.begin.new.files 2)
     (rest c.run_events-ran.new.files 2) c.run_events-ran.result =
-    subst (λ (l : Seal). EndsRun g.B.Board c.in-Ok.begun.tables l mid new (rest c.begin.new.files 2)
+    subst (λ (l : Seal). EndsRun g.B.Printer c.in-Ok.begun.tables l mid new (rest c.begin.new.files 2)
     (rest c.run_events-ran.new.files 2) c.run_events-ran.result) begun.seal_is (c.run_events-ran.ensures.ends tells) in
-    let of_tables : EndsRun g.B.Board (tables_in s) s.seal mid new (rest c.begin.new.files 2)
+    let of_tables : EndsRun g.B.Printer (tables_in s) s.seal mid new (rest c.begin.new.files 2)
     (rest c.run_events-ran.new.files 2) c.run_events-ran.result =
-    subst (λ (p : TableParts). EndsRun g.B.Board p s.seal mid new (rest c.begin.new.files 2)
+    subst (λ (p : TableParts). EndsRun g.B.Printer p s.seal mid new (rest c.begin.new.files 2)
     (rest c.run_events-ran.new.files 2) c.run_events-ran.result) begun.tables_are of_seal in
-    let ends : EndsRun g.B.Board (tables_in s) s.seal mid new (rest files 2)
+    let ends : EndsRun g.B.Printer (tables_in s) s.seal mid new (rest files 2)
     (rest c.run_events-ran.new.files 2) c.run_events-ran.result =
-    subst (λ (drive : List ℕ). EndsRun g.B.Board (tables_in s) s.seal mid new drive
+    subst (λ (drive : List ℕ). EndsRun g.B.Printer (tables_in s) s.seal mid new drive
     (rest c.run_events-ran.new.files 2) c.run_events-ran.result) (before.others 2 (two-one 2 refl)) of_tables in
     let read : rest c.run_events-ran.new.files 1 ≡ [] =
     c.run_events-ran.ensures.others 1 (one-two 1 refl) ∙ c.in-Ok.ensures.ended tells in
-    subst (λ (end : Ended). RunReachesLine g.F.Files g.B.Board files c.run_events-ran.new.files old new end)
+    subst (λ (end : Ended). RunReachesLine g.F.Files g.B.Printer files c.run_events-ran.new.files old new end)
     (sym c.ended_of.ensures)
-    (ran-comes g.F.Files g.B.Board files c.run_events-ran.new.files old mid new s begun.is told is opens
+    (ran-comes g.F.Files g.B.Printer files c.run_events-ran.new.files old mid new s begun.is told is opens
     (IsErrOf c.begin.result ended.BoardFault) went
     (before.opens.synced told) (before.opens.settled told went) (before.opens.same went) before.opens.reads.text
     (c.run_events-ran.ensures.beside told) read c.run_events-ran.result ends

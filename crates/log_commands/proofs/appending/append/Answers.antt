@@ -7,17 +7,17 @@ use Rattle.log_commands.proofs.appending.append.Goals as goal
 
 pub returns-in_err-shut_gate-clause-any_moment : goal.returns-in_err-shut_gate-clause-any_moment
 returns-in_err-shut_gate-clause-any_moment g c told records ready rise =
-    leaves_wider g.G.Board _ (λ image text. IsStep records c.args.it.now image) _ _ (λ image text kept. inl kept)
+    leaves_wider g.G.Printer _ (λ image text. IsStep records c.args.it.now image) _ _ (λ image text kept. inl kept)
     (c.shut_gate.ensures.any_moment told records ready)
 
 pub returns-in_err-write_body-clause-any_moment : goal.returns-in_err-write_body-clause-any_moment
 returns-in_err-write_body-clause-any_moment g c told records ready rise =
     let step = λ (image text : List ℕ). IsStep records c.args.it.now image in
     let shut = c.in_ok-shut_gate.ensures.shut told records ready in
-    leaves_then g.G.Board step _ _ _
-    (leaves_wider g.G.Board _ step _ _ (λ image text kept. inl kept)
+    leaves_then g.G.Printer step _ _ _
+    (leaves_wider g.G.Printer _ step _ _ (λ image text kept. inl kept)
     (c.shut_gate.ensures.any_moment told records ready))
-    (leaves_wider g.G.Board _ step _ _ (λ image text stands. inl (inr stands))
+    (leaves_wider g.G.Printer _ step _ _ (λ image text stands. inl (inr stands))
     (c.write_body.ensures.any_moment told (last_ones 255 records) shut))
 
 pub returns-in_err-write_body-clause-cause : goal.returns-in_err-write_body-clause-cause
@@ -30,13 +30,13 @@ returns-clause-any_moment g c told records ready rise =
     let step = λ (image text : List ℕ). IsStep records c.args.it.now image in
     let shut = c.in_ok-shut_gate.ensures.shut told records ready in
     let written = c.in_ok-write_body.ensures.written told (last_ones 255 records) shut in
-    leaves_then g.G.Board step _ _ _
-    (leaves_then g.G.Board step _ _ _
-    (leaves_wider g.G.Board _ step _ _ (λ image text kept. inl kept)
+    leaves_then g.G.Printer step _ _ _
+    (leaves_then g.G.Printer step _ _ _
+    (leaves_wider g.G.Printer _ step _ _ (λ image text kept. inl kept)
     (c.shut_gate.ensures.any_moment told records ready))
-    (leaves_wider g.G.Board _ step _ _ (λ image text stands. inl (inr stands))
+    (leaves_wider g.G.Printer _ step _ _ (λ image text stands. inl (inr stands))
     (c.write_body.ensures.any_moment told (last_ones 255 records) shut)))
-    (leaves_wider g.G.Board _ step _ _ (λ image text stands. ⊎_elim (λ kept. inl (inr kept))
+    (leaves_wider g.G.Printer _ step _ _ (λ image text stands. ⊎_elim (λ kept. inl (inr kept))
     (λ new. inr (subst (λ (l : List Record). StandsFor l image) (sym (kept_and_new records c.args.it.now)) new)) stands)
     (c.open_gate.ensures.any_moment told (last_ones 255 records) c.args.it.now written
     (kept_rise records c.args.it.now rise)))
@@ -45,7 +45,8 @@ pub returns-clause-ready : goal.returns-clause-ready
 returns-clause-ready g c told = on_ok_weaker c.open_gate.result (λ opens records ready rise.
     let shut = c.in_ok-shut_gate.ensures.shut told records ready in
     let written = c.in_ok-write_body.ensures.written told (last_ones 255 records) shut in
-    subst (λ (l : List Record). IsReady (g.G.Board.image c.open_gate.new.log) (g.G.Board.in_flight c.open_gate.new.log)
+    subst (λ (l : List Record). IsReady (g.G.Printer.image c.open_gate.new.log)
+    (g.G.Printer.in_flight c.open_gate.new.log)
     (c.args.last + 1) (nat_lt 254 c.args.last) l) (sym (kept_and_new records c.args.it.now))
     (opens (last_ones 255 records) c.args.it.now written (kept_rise records c.args.it.now rise)))
     (c.open_gate.ensures.ready told)

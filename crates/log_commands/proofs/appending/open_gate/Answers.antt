@@ -4,7 +4,7 @@ use Rattle.log_commands.proofs.appending.open_gate.Goals as goal
 
 pub returns-clause-any_moment : goal.returns-clause-any_moment
 returns-clause-any_moment g c told records it written rise =
-    leaves_wider g.G.Board _ _ _ _ (λ image text left.
+    leaves_wider g.G.Printer _ _ _ _ (λ image text left.
     open_leaves _ image _ c.args.last records it written rise
     (same_place _ _ image _ _ 1 c.next_at.ensures.is left.bytes)) c.write_and_sync.ensures.any_moment
 

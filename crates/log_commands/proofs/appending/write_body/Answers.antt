@@ -19,11 +19,11 @@ at_is g c = ap (λ (at : ℕ). at + 1) c.next_at.ensures.is
 pub returns-clause-any_moment : goal.returns-clause-any_moment
 returns-clause-any_moment g c told records shut =
     let long : length c.as_slice-2.result.now ≡ 511 = search rules in
-    let image = g.G.Board.image c.args.log.now in
-    let in_flight = g.G.Board.in_flight c.args.log.now in
-    let printed = g.G.Board.printed c.args.log.now in
+    let image = g.G.Printer.image c.args.log.now in
+    let in_flight = g.G.Printer.in_flight c.args.log.now in
+    let printed = g.G.Printer.printed c.args.log.now in
     let count = length c.as_slice-2.result.now in
-    leaves_wider g.G.Board (MayLeave image (OrWithin in_flight (c.next_at.result + 1) count) printed) _ _ _
+    leaves_wider g.G.Printer (MayLeave image (OrWithin in_flight (c.next_at.result + 1) count) printed) _ _ _
     (λ left text may_leave. (
       c.args.last,
       write_leaves _ left _ c.args.last records shut

@@ -9,7 +9,7 @@ loop-slot-init g c = record {
   size = refl;
   entries = λ told slot small. absurd (omega (arith, small));
   image = refl;
-  reads = reads_none g.G.Board c.args.log.now (g.met.G.Board.only_now c.args.log.now);
+  reads = reads_none g.G.Printer c.args.log.now (g.met.G.Printer.only_now c.args.log.now);
   faults = refl;
   steps = omega arith;
 }
@@ -25,7 +25,7 @@ returns-in_err-entries-clause-bad g c =
 pub returns-in_err-entries-clause-cause : goal.returns-in_err-entries-clause-cause
 returns-in_err-entries-clause-cause g c =
     let p = err_from_is_err_and c.from_residual.result c.from_residual.ensures.1 in
-    rises_later _ (g.G.Board.faults c.loop-slot.log) _ c.loop-slot.invariant.faults
+    rises_later _ (g.G.Printer.faults c.loop-slot.log) _ c.loop-slot.invariant.faults
     (rises_passed _ _ c.read_entry.result c.from_residual.result c.in_err-entries.field-0.0 DeviceFailed
     c.in_err-entries.was (rw (p.1, p.2)) c.read_entry.ensures.cause)
 
@@ -34,13 +34,14 @@ loop-slot-preserved g c =
     record {
       size = length-set c.loop-slot.entries c.loop-slot.slot c.in_ok-entries.field-0 ∙ c.loop-slot.invariant.size;
       entries = λ told slot small.
-          entries_more (g.G.Board.image c.args.log.now) c.loop-slot.entries c.loop-slot.slot c.in_ok-entries.field-0
+          entries_more (g.G.Printer.image c.args.log.now) c.loop-slot.entries c.loop-slot.slot c.in_ok-entries.field-0
           (omega (arith, c.loop-slot.invariant.size, c.loop-slot-test.true)) (c.loop-slot.invariant.entries told)
           (subst (λ (i : List ℕ). IsEntry i c.loop-slot.slot c.in_ok-entries.field-0) c.loop-slot.invariant.image
           (c.in_ok-entries.ensures.entry told)) slot small;
       image = c.read_entry.ensures.image ∙ c.loop-slot.invariant.image;
       reads =
-          reads_then g.G.Board _ _ _ c.loop-slot.invariant.reads c.loop-slot.invariant.image c.read_entry.ensures.reads;
+          reads_then g.G.Printer _ _ _ c.loop-slot.invariant.reads c.loop-slot.invariant.image
+          c.read_entry.ensures.reads;
       faults = rises_ok _ _ c.read_entry.result c.in_ok-entries.field-0 DeviceFailed c.in_ok-entries.was
           c.read_entry.ensures.cause ∙ c.loop-slot.invariant.faults;
       steps = omega (arith, c.loop-slot.invariant.steps, c.read_entry.ensures.step);

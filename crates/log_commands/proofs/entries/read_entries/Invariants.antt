@@ -6,10 +6,10 @@ use Rattle.log_commands.proofs.entries.read_entries.Given as goal
 abbrev pub invariant-loop-slot : goal.invariant-loop-slot
 invariant-loop-slot g l = record {
   size : length l.entries ≡ 256;
-  entries : g.G.Board.tells_image → (slot : ℕ) → slot < l.slot
-      → IsEntry (g.G.Board.image l.fn.log) slot (get_or l.entries slot None);
-  image : g.G.Board.image l.log ≡ g.G.Board.image l.fn.log;
-  reads : ReadsOnly g.G.Board l.fn.log l.log;
-  faults : g.G.Board.faults l.log ≡ g.G.Board.faults l.fn.log;
+  entries : g.G.Printer.tells_image → (slot : ℕ) → slot < l.slot
+      → IsEntry (g.G.Printer.image l.fn.log) slot (get_or l.entries slot None);
+  image : g.G.Printer.image l.log ≡ g.G.Printer.image l.fn.log;
+  reads : ReadsOnly g.G.Printer l.fn.log l.log;
+  faults : g.G.Printer.faults l.log ≡ g.G.Printer.faults l.fn.log;
   steps : l.steps ≤ l.fn.steps + l.slot;
 }

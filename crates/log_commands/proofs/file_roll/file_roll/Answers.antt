@@ -10,8 +10,8 @@ loop-end-init g c = record {
   filing = record {
     receipts = [];
     filed = [];
-    to = files_none g.G.Board g.G.Board.tells_image c.args.log.now c.args.tail.now
-        (λ told image text left. (g.met.G.Board.only_now c.args.log.now image text left).bytes);
+    to = files_none g.G.Printer g.G.Printer.tells_image c.args.log.now c.args.tail.now
+        (λ told image text left. (g.met.G.Printer.only_now c.args.log.now image text left).bytes);
     read = λ told. c.new-roll.ensures.start (g.F.Files.rest c.args.files.now c.args.word);
     seen_is = refl;
     few = omega arith;
@@ -29,7 +29,7 @@ loop-end-init g c = record {
 
 pub returns-in-Err-clause-ok : goal.returns-in-Err-clause-ok
 returns-in-Err-clause-ok g c =
-    filing_over g.G.Board g.G.Board.tells_image g.F.Files.tells c.in-Err.end c.file_end.result c.args.log.now
+    filing_over g.G.Printer g.G.Printer.tells_image g.F.Files.tells c.in-Err.end c.file_end.result c.args.log.now
     c.loop-end.log c.args.tail.now c.loop-end.tail
     (g.F.Files.rest c.args.files.now c.args.word) c.loop-end.roll c.next.new.self (g.F.Files.rest c.loop-end.files
     c.args.word) (g.F.Files.rest c.next.new.files c.args.word) c.loop-end.seen c.args.steps.now c.loop-end.steps
@@ -39,7 +39,7 @@ returns-in-Err-clause-ok g c =
 pub returns-in_err-file_one-in-Ok-clause-failed : goal.returns-in_err-file_one-in-Ok-clause-failed
 returns-in_err-file_one-in-Ok-clause-failed g c =
     let failed = c.in_err-file_one-in-Ok.ensures.failed in
-    err_says c.from_residual.result (filing_fails g.G.Board g.G.Board.tells_image g.F.Files.tells c.args.log.now
+    err_says c.from_residual.result (filing_fails g.G.Printer g.G.Printer.tells_image g.F.Files.tells c.args.log.now
     c.loop-end.log c.file_one.new.log c.args.tail.now c.loop-end.tail
     (g.F.Files.rest c.args.files.now c.args.word) c.loop-end.roll c.next.new.self
     (g.F.Files.rest c.loop-end.files c.args.word)
@@ -48,13 +48,14 @@ returns-in_err-file_one-in-Ok-clause-failed g c =
 
 pub returns-in_err-file_one-in-Ok-clause-cause : goal.returns-in_err-file_one-in-Ok-clause-cause
 returns-in_err-file_one-in-Ok-clause-cause g c =
-    err_later _ _ (g.G.Board.faults c.loop-end.log) _ c.loop-end.invariant.faults
+    err_later _ _ (g.G.Printer.faults c.loop-end.log) _ c.loop-end.invariant.faults
     c.in_err-file_one-in-Ok.ensures.cause c.from_residual.result c.from_residual.ensures.1
 
 pub returns-in-OtherTaxi-clause-ok : goal.returns-in-OtherTaxi-clause-ok
 returns-in-OtherTaxi-clause-ok g c =
     let other = c.in_ok-file_one-in-Ok.ensures.other (ap Ok c.in-OtherTaxi.is) in
-    filing_other_now g.G.Board g.G.Board.tells_image g.F.Files.tells c.args.log.now c.loop-end.log c.file_one.new.log
+    filing_other_now g.G.Printer g.G.Printer.tells_image g.F.Files.tells c.args.log.now c.loop-end.log
+    c.file_one.new.log
     c.args.tail.now c.loop-end.tail c.file_one.new.tail
     (g.F.Files.rest c.args.files.now c.args.word) c.loop-end.roll c.next.new.self
     (g.F.Files.rest c.loop-end.files c.args.word)
@@ -72,7 +73,7 @@ returns-in-Err-clause-cause g c = cause_ok _ _ _ c.loop-end.invariant.faults
 
 pub returns-in-Err-clause-read_fault : goal.returns-in-Err-clause-read_fault
 returns-in-Err-clause-read_fault g c = λ is.
-    fault_over g.G.Board g.G.Board.tells_image g.F.Files.tells c.in-Err.end c.next.new.self
+    fault_over g.G.Printer g.G.Printer.tells_image g.F.Files.tells c.in-Err.end c.next.new.self
     c.file_end.result c.loop-end.tail.filed _ _ c.in-Err.ensures.end.0
     (c.file_end.ensures.whole, c.file_end.ensures.too_long, c.file_end.ensures.fault)
     (rises_since c.loop-end.roll c.next.new.self _ (g.F.Files.faults c.loop-end.files c.args.word) _
@@ -81,7 +82,7 @@ returns-in-Err-clause-read_fault g c = λ is.
 
 pub returns-in-Err-clause-counts : goal.returns-in-Err-clause-counts
 returns-in-Err-clause-counts g c = λ other.
-    counts_over g.G.Board g.G.Board.tells_image g.F.Files.tells c.in-Err.end c.next.new.self
+    counts_over g.G.Printer g.G.Printer.tells_image g.F.Files.tells c.in-Err.end c.next.new.self
     c.file_end.result c.loop-end.tail.filed _ _ c.in-Err.ensures.end.0
     (c.file_end.ensures.whole, c.file_end.ensures.too_long, c.file_end.ensures.fault)
     (may_since c.loop-end.roll c.next.new.self _ (g.F.Files.faults c.loop-end.files other) _
@@ -108,13 +109,14 @@ returns-in-OtherTaxi-clause-counts g c = λ other.
 
 pub loop-end-preserved : goal.loop-end-preserved
 loop-end-preserved g c = record {
-  filing = filing_on g.G.Board g.G.Board.tells_image g.F.Files.tells c.args.log.now c.loop-end.log c.file_one.new.log
+  filing = filing_on g.G.Printer g.G.Printer.tells_image g.F.Files.tells c.args.log.now c.loop-end.log
+      c.file_one.new.log
       c.args.tail.now c.loop-end.tail c.file_one.new.tail
       (g.F.Files.rest c.args.files.now c.args.word) c.loop-end.roll c.next.new.self
       (g.F.Files.rest c.loop-end.files c.args.word) (g.F.Files.rest c.next.new.files c.args.word) c.loop-end.seen
       c.args.steps.now c.loop-end.steps c.file_one.new.steps
       c.in-Ok.receipt c.loop-end.invariant.filing c.in-Ok.ensures.found
-      (filing_by g.G.Board g.G.Board.tells_image g.F.Files.tells c.in_ok-file_one-in-Ok.field-0 c.loop-end.log
+      (filing_by g.G.Printer g.G.Printer.tells_image g.F.Files.tells c.in_ok-file_one-in-Ok.field-0 c.loop-end.log
       c.file_one.new.log c.loop-end.tail c.file_one.new.tail c.in-Ok.receipt c.loop-end.steps c.file_one.new.steps
       c.in_default.not-OtherTaxi c.in_ok-file_one-in-Ok.ensures.passed c.in_ok-file_one-in-Ok.ensures.appended
       c.file_one.ensures.steps);

@@ -9,13 +9,13 @@ pub returns-in_err-sync-clause-synced : goal.returns-in_err-sync-clause-synced
 returns-in_err-sync-clause-synced g c told =
     inl (
       search rules,
-      reads_sync g.G.Board _ _ (g.met.G.Board.only_now c.args.log.now) c.sync.ensures.image c.sync.ensures.flight
+      reads_sync g.G.Printer _ _ (g.met.G.Printer.only_now c.args.log.now) c.sync.ensures.image c.sync.ensures.flight
           c.sync.ensures.text c.sync.ensures.time,
     )
 
 pub returns-in-Ok-clause-found : goal.returns-in-Ok-clause-found
 returns-in-Ok-clause-found g c told =
-    let log = g.G.Board in
+    let log = g.G.Printer in
     let flying = log.in_flight c.tail_of.new.log in
     let same = c.read_entries.ensures.image ∙ c.in_ok-sync.ensures.same in
     let are = subst (λ (i : List ℕ). AreEntries i c.in-Ok.entries) (sym c.read_entries.ensures.image)
@@ -38,12 +38,12 @@ returns-in-Ok-clause-broken g c err told =
     let same = c.read_entries.ensures.image ∙ c.in_ok-sync.ensures.same in
     let are = subst (λ (i : List ℕ). AreEntries i c.in-Ok.entries) (sym c.read_entries.ensures.image)
     (c.in-Ok.ensures.entries told) in
-    subst IsBroken same (c.tail_of.ensures.broken err (g.G.Board.image c.read_entries.new.log) are)
+    subst IsBroken same (c.tail_of.ensures.broken err (g.G.Printer.image c.read_entries.new.log) are)
 
 pub returns-in-Ok-clause-synced : goal.returns-in-Ok-clause-synced
 returns-in-Ok-clause-synced g c told =
-    let board = g.G.Board in
-    let synced = synced_by board c.args.log.now c.sync.new.self (g.met.G.Board.only_now c.args.log.now)
+    let board = g.G.Printer in
+    let synced = synced_by board c.args.log.now c.sync.new.self (g.met.G.Printer.only_now c.args.log.now)
     c.sync.ensures.image c.sync.ensures.flight c.sync.ensures.text c.sync.ensures.time c.in_ok-sync.ensures.same
     (c.in_ok-sync.ensures.durable told) in
     inr (
@@ -65,8 +65,8 @@ returns-in-Err-clause-broken g c err told = absurd (c.fault_of.ensures.whole (sa
 
 pub returns-in-Err-clause-synced : goal.returns-in-Err-clause-synced
 returns-in-Err-clause-synced g c told =
-    let board = g.G.Board in
-    let synced = synced_by board c.args.log.now c.sync.new.self (g.met.G.Board.only_now c.args.log.now)
+    let board = g.G.Printer in
+    let synced = synced_by board c.args.log.now c.sync.new.self (g.met.G.Printer.only_now c.args.log.now)
     c.sync.ensures.image c.sync.ensures.flight c.sync.ensures.text c.sync.ensures.time c.in_ok-sync.ensures.same
     (c.in_ok-sync.ensures.durable told) in
     inr (
@@ -79,23 +79,23 @@ returns-in-Err-clause-synced g c told =
 
 pub returns-in_err-sync-clause-reads : goal.returns-in_err-sync-clause-reads
 returns-in_err-sync-clause-reads g c =
-    reads_sync g.G.Board _ _ (g.met.G.Board.only_now c.args.log.now) c.sync.ensures.image c.sync.ensures.flight
+    reads_sync g.G.Printer _ _ (g.met.G.Printer.only_now c.args.log.now) c.sync.ensures.image c.sync.ensures.flight
     c.sync.ensures.text c.sync.ensures.time
 
 pub returns-in-Ok-clause-reads : goal.returns-in-Ok-clause-reads
 returns-in-Ok-clause-reads g c =
-    let board = g.G.Board in
+    let board = g.G.Printer in
     reads_then board c.args.log.now c.sync.new.self c.tail_of.new.log
-    (reads_sync board c.args.log.now c.sync.new.self (g.met.G.Board.only_now c.args.log.now) c.sync.ensures.image
+    (reads_sync board c.args.log.now c.sync.new.self (g.met.G.Printer.only_now c.args.log.now) c.sync.ensures.image
     c.sync.ensures.flight c.sync.ensures.text c.sync.ensures.time) c.in_ok-sync.ensures.same
     (reads_then board c.sync.new.self c.read_entries.new.log c.tail_of.new.log c.read_entries.ensures.reads
     c.read_entries.ensures.image c.tail_of.ensures.reads)
 
 pub returns-in-Err-clause-reads : goal.returns-in-Err-clause-reads
 returns-in-Err-clause-reads g c =
-    let board = g.G.Board in
+    let board = g.G.Printer in
     reads_then board c.args.log.now c.sync.new.self c.read_entries.new.log
-    (reads_sync board c.args.log.now c.sync.new.self (g.met.G.Board.only_now c.args.log.now) c.sync.ensures.image
+    (reads_sync board c.args.log.now c.sync.new.self (g.met.G.Printer.only_now c.args.log.now) c.sync.ensures.image
     c.sync.ensures.flight c.sync.ensures.text c.sync.ensures.time) c.in_ok-sync.ensures.same
     c.read_entries.ensures.reads
 

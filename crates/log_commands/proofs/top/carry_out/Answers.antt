@@ -3,7 +3,7 @@ use Rattle.log_commands.proofs.top.carry_out.Goals as goal
 
 pub returns-in-None-clause-comes : goal.returns-in-None-clause-comes
 returns-in-None-clause-comes g c = λ known.
-    reaches_refused g.F.Files g.G.Board c.args.call c.args.files.now c.args.log.now c.args.steps.now c.in-None.is
+    reaches_refused g.F.Files g.G.Printer c.args.call c.args.files.now c.args.log.now c.args.steps.now c.in-None.is
 
 pub returns-in-None-clause-has : goal.returns-in-None-clause-has
 returns-in-None-clause-has g c = rw c.in-None.is (inl refl)

@@ -13,7 +13,7 @@ use Rattle.log_commands.proofs.top.file.Goals as goal
 
 pub returns-in-Err-clause-comes : goal.returns-in-Err-clause-comes
 returns-in-Err-clause-comes g c = λ files_told told.
-    let B = g.G.Board in
+    let B = g.G.Printer in
     let fault = c.in-Err.fault in
     subst (λ (end : Ended). CallReachesLine g.F.Files B (Some File) c.args.files.now c.args.files.now c.args.log.now
     c.find_tail.new.log c.args.steps.now c.find_tail.new.steps end) (sym c.ended_unread.ensures)
@@ -39,7 +39,8 @@ returns-in-Err-clause-reads g c = λ word. may_none (g.F.Files.faults c.args.fil
 
 pub returns-in-Err-clause-looks : goal.returns-in-Err-clause-looks
 returns-in-Err-clause-looks g c = λ writes.
-    search_read g.G.Board c.args.log.now c.find_tail.new.log (status_of c.ended_unread.result) c.find_tail.ensures.reads
+    search_read g.G.Printer c.args.log.now c.find_tail.new.log (status_of c.ended_unread.result)
+    c.find_tail.ensures.reads
     (λ not. c.find_tail.ensures.same (λ e. not (ap status_of
     (c.ended_unread.ensures ∙ ap unread_end (same_fault _ c.in-Err.fault LogFault (sym c.in-Err.is ∙ e))))))
 
@@ -47,7 +48,7 @@ returns-in-Err-clause-looks g c = λ writes.
 
 pub returns-in-Ok-file_roll-clause-comes : goal.returns-in-Ok-file_roll-clause-comes
 returns-in-Ok-file_roll-clause-comes g c = λ files_told told.
-    let B = g.G.Board in
+    let B = g.G.Printer in
     let found = c.in-Ok.ensures.found told in
     subst (λ (end : Ended). CallReachesLine g.F.Files B (Some File) c.args.files.now c.file_roll.new.files
     c.args.log.now c.file_roll.new.log c.args.steps.now c.file_roll.new.steps end) (sym c.ended_filing.ensures)
@@ -57,7 +58,7 @@ returns-in-Ok-file_roll-clause-comes g c = λ files_told told.
     (found_sync B (IsAsHeld B c.args.log.now) c.args.log.now c.find_tail.new.log c.find_tail.result c.in-Ok.tail
     c.in-Ok.is (c.find_tail.ensures.synced told)) c.find_tail.ensures.steps c.find_tail.ensures.reads.text
     c.file_roll.ensures.text
-    g.G.Board.tells_image g.F.Files.tells told files_told c.in-Ok-file_roll.end c.file_roll.new.tail
+    g.G.Printer.tells_image g.F.Files.tells told files_told c.in-Ok-file_roll.end c.file_roll.new.tail
     c.in-Ok-file_roll.ensures.ok (λ is. c.file_roll.ensures.read_fault (c.in-Ok-file_roll.is ∙ ap Ok is)))
 
 pub returns-in-Ok-file_roll-clause-read_fault : goal.returns-in-Ok-file_roll-clause-read_fault
@@ -87,14 +88,14 @@ returns-in-Ok-file_roll-clause-untaken g c = λ writes. absurd
 -- ---- the board fails
 
 failed : (g : given.Over) (c : goal.In-Err-file_roll g)
-    → Rose (g.G.Board.faults c.args.log.now) (g.G.Board.faults c.file_roll.new.log)
+    → Rose (g.G.Printer.faults c.args.log.now) (g.G.Printer.faults c.file_roll.new.log)
 failed g c =
     rose_later _ _ _ (rises_ok _ _ c.find_tail.result c.in-Ok.tail LogFault c.in-Ok.is c.find_tail.ensures.cause)
     (c.file_roll.ensures.cause.failed (ap is_err c.in-Err-file_roll.is))
 
 pub returns-in-Err-file_roll-clause-comes : goal.returns-in-Err-file_roll-clause-comes
 returns-in-Err-file_roll-clause-comes g c = λ files_told told.
-    let B = g.G.Board in
+    let B = g.G.Printer in
     let found = c.in-Ok.ensures.found told in
     reaches_failed g.F.Files B c.args.files.now c.file_roll.new.files c.args.log.now c.find_tail.new.log
     c.file_roll.new.log c.args.steps.now c.find_tail.new.steps c.file_roll.new.steps found.0 found.1
@@ -102,7 +103,7 @@ returns-in-Err-file_roll-clause-comes g c = λ files_told told.
     (found_sync B (IsAsHeld B c.args.log.now) c.args.log.now c.find_tail.new.log c.find_tail.result c.in-Ok.tail
     c.in-Ok.is (c.find_tail.ensures.synced told)) c.find_tail.ensures.steps c.find_tail.ensures.reads.text
     c.file_roll.ensures.text
-    g.G.Board.tells_image g.F.Files.tells told files_told c.in-Err-file_roll.ensures.failed (failed g c)
+    g.G.Printer.tells_image g.F.Files.tells told files_told c.in-Err-file_roll.ensures.failed (failed g c)
 
 pub returns-in-Err-file_roll-clause-board_fault : goal.returns-in-Err-file_roll-clause-board_fault
 returns-in-Err-file_roll-clause-board_fault g c = record { kept = λ no. absurd (no refl); rose = λ _. failed g c }

@@ -12,7 +12,7 @@ use Rattle.log_commands.proofs.top.show.Goals as goal
 
 pub returns-in-Err-clause-comes : goal.returns-in-Err-clause-comes
 returns-in-Err-clause-comes g c = λ told files.
-    let B = g.G.Board in
+    let B = g.G.Printer in
     let fault = c.in-Err.fault in
     subst (λ (end : Ended). CallReachesLine g.F.Files B (Some Show) files files c.args.log.now c.find_tail.new.log
     c.args.steps.now c.find_tail.new.steps end) (sym c.ended_unread.ensures)
@@ -35,7 +35,8 @@ returns-in-Err-clause-board_fault g c =
 
 pub returns-in-Err-clause-looks : goal.returns-in-Err-clause-looks
 returns-in-Err-clause-looks g c =
-    search_read g.G.Board c.args.log.now c.find_tail.new.log (status_of c.ended_unread.result) c.find_tail.ensures.reads
+    search_read g.G.Printer c.args.log.now c.find_tail.new.log (status_of c.ended_unread.result)
+    c.find_tail.ensures.reads
     (λ not. c.find_tail.ensures.same (λ e. not (ap status_of
     (c.ended_unread.ensures ∙ ap unread_end (same_fault _ c.in-Err.fault LogFault (sym c.in-Err.is ∙ e))))))
 
@@ -45,17 +46,17 @@ pub returns-in-Ok-show_records-clause-comes : goal.returns-in-Ok-show_records-cl
 returns-in-Ok-show_records-clause-comes g c = λ told files.
     let found = c.in-Ok.ensures.found told in
     let held = found_shown _ _ _ c.in-Ok.tail found.0 found.1
-    (found_same g.G.Board (IsAsHeld g.G.Board c.args.log.now) c.args.log.now c.find_tail.new.log c.find_tail.result
+    (found_same g.G.Printer (IsAsHeld g.G.Printer c.args.log.now) c.args.log.now c.find_tail.new.log c.find_tail.result
     c.in-Ok.tail c.in-Ok.is c.find_tail.ensures.same) found.2 _ c.count_of-count.ensures.count in
-    reaches_shown g.F.Files g.G.Board files c.args.log.now c.find_tail.new.log c.show_records.new.log c.args.steps.now
+    reaches_shown g.F.Files g.G.Printer files c.args.log.now c.find_tail.new.log c.show_records.new.log c.args.steps.now
     c.show_records.new.steps found.0 found.1 c.find_tail.ensures.reads.text
     (λ text. c.in-Ok-show_records.ensures.shown told text found.0 held.0 held.1)
 
 pub returns-in-Ok-show_records-clause-looks : goal.returns-in-Ok-show_records-clause-looks
 returns-in-Ok-show_records-clause-looks g c =
-    let B = g.G.Board in
+    let B = g.G.Printer in
     search_keeps B c.args.log.now c.find_tail.new.log c.show_records.new.log 0
-    (g.met.G.Board.only_now c.find_tail.new.log) c.find_tail.ensures.reads
+    (g.met.G.Printer.only_now c.find_tail.new.log) c.find_tail.ensures.reads
     (found_same B (IsAsHeld B c.args.log.now) c.args.log.now c.find_tail.new.log c.find_tail.result c.in-Ok.tail
     c.in-Ok.is c.find_tail.ensures.same) c.show_records.ensures.keeps
 
@@ -67,7 +68,7 @@ returns-in-Ok-show_records-clause-board_fault g c = record {
 }
 
 failed : (g : given.Over) (c : goal.In-Err-show_records g)
-    → Rose (g.G.Board.faults c.args.log.now) (g.G.Board.faults c.show_records.new.log)
+    → Rose (g.G.Printer.faults c.args.log.now) (g.G.Printer.faults c.show_records.new.log)
 failed g c =
     rose_later _ _ _ (rises_ok _ _ c.find_tail.result c.in-Ok.tail LogFault c.in-Ok.is c.find_tail.ensures.cause)
     (c.show_records.ensures.cause.failed (ap is_err c.in-Err-show_records.is))
@@ -76,9 +77,9 @@ pub returns-in-Err-show_records-clause-comes : goal.returns-in-Err-show_records-
 returns-in-Err-show_records-clause-comes g c = λ told files.
     let found = c.in-Ok.ensures.found told in
     let held = found_shown _ _ _ c.in-Ok.tail found.0 found.1
-    (found_same g.G.Board (IsAsHeld g.G.Board c.args.log.now) c.args.log.now c.find_tail.new.log c.find_tail.result
+    (found_same g.G.Printer (IsAsHeld g.G.Printer c.args.log.now) c.args.log.now c.find_tail.new.log c.find_tail.result
     c.in-Ok.tail c.in-Ok.is c.find_tail.ensures.same) found.2 _ c.count_of-count.ensures.count in
-    reaches_cut g.F.Files g.G.Board files c.args.log.now c.find_tail.new.log c.show_records.new.log c.args.steps.now
+    reaches_cut g.F.Files g.G.Printer files c.args.log.now c.find_tail.new.log c.show_records.new.log c.args.steps.now
     c.show_records.new.steps found.0 found.1 c.find_tail.ensures.reads.text
     (λ text. c.show_records.ensures.begun told text found.0 held.0 held.1)
     (failed g c)
@@ -88,9 +89,9 @@ returns-in-Err-show_records-clause-board_fault g c = record { kept = λ no. absu
 
 pub returns-in-Err-show_records-clause-looks : goal.returns-in-Err-show_records-clause-looks
 returns-in-Err-show_records-clause-looks g c =
-    let B = g.G.Board in
+    let B = g.G.Printer in
     search_keeps B c.args.log.now c.find_tail.new.log c.show_records.new.log 8
-    (g.met.G.Board.only_now c.find_tail.new.log) c.find_tail.ensures.reads
+    (g.met.G.Printer.only_now c.find_tail.new.log) c.find_tail.ensures.reads
     (found_same B (IsAsHeld B c.args.log.now) c.args.log.now c.find_tail.new.log c.find_tail.result c.in-Ok.tail
     c.in-Ok.is c.find_tail.ensures.same) c.show_records.ensures.keeps
 

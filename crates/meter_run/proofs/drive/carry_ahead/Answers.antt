@@ -13,7 +13,7 @@ ahead-init g c = record {
       (g.met.C.Carrier.sooner c.args.by.now) c.args.source.now c.args.meter.now c.args.board.now c.args.steps.now;
   given = c.requires.given;
   some = c.requires.some;
-  faults = no_more (g.B.Board.faults c.args.board.now);
+  faults = no_more (g.B.Printer.faults c.args.board.now);
 }
 
 pub feed-stop-requires : goal.feed-stop-requires
@@ -46,8 +46,8 @@ returns-in_err-carry_runs-clause-bad g c =
 
 pub returns-in_err-carry_runs-clause-cause : goal.returns-in_err-carry_runs-clause-cause
 returns-in_err-carry_runs-clause-cause g c =
-    went_wrong (g.B.Board.faults c.args.board.now) (g.B.Board.faults c.ahead.board)
-    (g.B.Board.faults c.carry_runs.new.board) _ c.from_residual.result c.from_residual.ensures.0
+    went_wrong (g.B.Printer.faults c.args.board.now) (g.B.Printer.faults c.ahead.board)
+    (g.B.Printer.faults c.carry_runs.new.board) _ c.from_residual.result c.from_residual.ensures.0
     c.ahead.invariant.faults c.in_err-carry_runs.ensures.cause
 
 pub returns-in_err-carry_runs-clause-broke_off : goal.returns-in_err-carry_runs-clause-broke_off
@@ -94,9 +94,9 @@ returns-in-Some-clause-bad g c =
 
 pub returns-in-Some-clause-cause : goal.returns-in-Some-clause-cause
 returns-in-Some-clause-cause g c =
-    went_well (g.B.Board.faults c.args.board.now) (g.B.Board.faults c.carry_runs.new.board) _
-    (counts_more (g.B.Board.faults c.args.board.now) (g.B.Board.faults c.ahead.board)
-    (g.B.Board.faults c.carry_runs.new.board) c.ahead.invariant.faults
+    went_well (g.B.Printer.faults c.args.board.now) (g.B.Printer.faults c.carry_runs.new.board) _
+    (counts_more (g.B.Printer.faults c.args.board.now) (g.B.Printer.faults c.ahead.board)
+    (g.B.Printer.faults c.carry_runs.new.board) c.ahead.invariant.faults
     (c.in_ok-carry_runs.ensures.cause.kept true_is))
 
 pub returns-then-is_through-clause-ready : goal.returns-then-is_through-clause-ready
@@ -124,9 +124,9 @@ returns-then-is_through-clause-bad g c = λ stop is. absurd (none_not_some _ sto
 
 pub returns-then-is_through-clause-cause : goal.returns-then-is_through-clause-cause
 returns-then-is_through-clause-cause g c =
-    went_well (g.B.Board.faults c.args.board.now) (g.B.Board.faults c.carry_runs.new.board) _
-    (counts_more (g.B.Board.faults c.args.board.now) (g.B.Board.faults c.ahead.board)
-    (g.B.Board.faults c.carry_runs.new.board) c.ahead.invariant.faults
+    went_well (g.B.Printer.faults c.args.board.now) (g.B.Printer.faults c.carry_runs.new.board) _
+    (counts_more (g.B.Printer.faults c.args.board.now) (g.B.Printer.faults c.ahead.board)
+    (g.B.Printer.faults c.carry_runs.new.board) c.ahead.invariant.faults
     (c.in_ok-carry_runs.ensures.cause.kept true_is))
 
 pub ahead-smaller : goal.ahead-smaller
@@ -156,7 +156,7 @@ ahead-preserved g c =
       given = (given.0 ++ gives.fed, gives.goes_on);
       some = some_ahead c.feed-stop.new.self.ahead
           (not_told c.is_through.result _ c.is_through.ensures.1 c.if-is_through.false);
-      faults = counts_more (g.B.Board.faults c.args.board.now) (g.B.Board.faults c.ahead.board)
-          (g.B.Board.faults c.carry_runs.new.board) c.ahead.invariant.faults
+      faults = counts_more (g.B.Printer.faults c.args.board.now) (g.B.Printer.faults c.ahead.board)
+          (g.B.Printer.faults c.carry_runs.new.board) c.ahead.invariant.faults
           (c.in_ok-carry_runs.ensures.cause.kept true_is);
     }

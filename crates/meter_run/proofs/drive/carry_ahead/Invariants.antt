@@ -10,7 +10,7 @@ invariant-ahead g l = record {
       l.steps;
   given : (given : List ℕ) × HasGiven l.source given;
   some : 0 < length l.source.ahead;
-  faults : g.B.Board.faults l.board ≡ g.B.Board.faults l.fn.board;
+  faults : g.B.Printer.faults l.board ≡ g.B.Printer.faults l.fn.board;
 }
 
 abbrev pub decreases-ahead : goal.decreases-ahead

@@ -14,7 +14,7 @@ loop-stop-init g c =
       up_to = up_to_none g.F.Files.tells c.new-source.result (g.F.Files.rest c.args.files.now c.args.word)
           (λ (es : List Event). g.C.Carrier.carried r m b es m b) c.args.steps.now
           c.new-source.ensures.given c.new-source.ensures.none (g.met.C.Carrier.nothing r m b c.requires.ready);
-      faults = no_more (g.B.Board.faults b);
+      faults = no_more (g.B.Printer.faults b);
       others = λ other differs. refl;
       counts = λ other. no_more (g.F.Files.faults c.args.files.now other);
     }
@@ -33,8 +33,8 @@ returns-in_err-stop-clause-carried g c = not_ok _ c.from_residual.result _ c.fro
 
 pub returns-in_err-stop-clause-cause : goal.returns-in_err-stop-clause-cause
 returns-in_err-stop-clause-cause g c =
-    went_wrong (g.B.Board.faults c.args.board.now) (g.B.Board.faults c.loop-stop.board)
-    (g.B.Board.faults c.carry_piece.new.board) _ c.from_residual.result c.from_residual.ensures.0
+    went_wrong (g.B.Printer.faults c.args.board.now) (g.B.Printer.faults c.loop-stop.board)
+    (g.B.Printer.faults c.carry_piece.new.board) _ c.from_residual.result c.from_residual.ensures.0
     c.loop-stop.invariant.faults c.in_err-stop.ensures.cause
 
 pub returns-in_err-stop-clause-others : goal.returns-in_err-stop-clause-others
@@ -109,8 +109,8 @@ loop-stop-preserved g c =
           (λ (es : List Event). g.C.Carrier.carried r m b es c.loop-stop.meter c.loop-stop.board)
           (λ (es : List Event). g.C.Carrier.carried r m b es c.carry_piece.new.meter c.carry_piece.new.board)
           c.args.steps.now c.loop-stop.steps c.carry_piece.new.steps s piece;
-      faults = counts_more (g.B.Board.faults c.args.board.now) (g.B.Board.faults c.loop-stop.board)
-          (g.B.Board.faults c.carry_piece.new.board) c.loop-stop.invariant.faults
+      faults = counts_more (g.B.Printer.faults c.args.board.now) (g.B.Printer.faults c.loop-stop.board)
+          (g.B.Printer.faults c.carry_piece.new.board) c.loop-stop.invariant.faults
           (c.in_ok-stop.ensures.cause.kept true_is);
       others = λ other differs. c.carry_piece.ensures.others other differs ∙ c.loop-stop.invariant.others other differs;
       counts = λ other. counts_more (g.F.Files.faults c.args.files.now other) (g.F.Files.faults c.loop-stop.files other)

@@ -8,7 +8,7 @@ invariant-loop-stop g l = record {
   ready : g.C.Carrier.ready l.by l.meter l.board;
   up_to : IsUpTo g.F.Files.tells l.source (g.F.Files.rest l.fn.files l.word) (g.F.Files.rest l.files l.word)
       (λ events. g.C.Carrier.carried l.by l.fn.meter l.fn.board events l.meter l.board) l.fn.steps l.steps;
-  faults : g.B.Board.faults l.board ≡ g.B.Board.faults l.fn.board;
+  faults : g.B.Printer.faults l.board ≡ g.B.Printer.faults l.fn.board;
   others : (other : ℕ) → other ≢ l.word → g.F.Files.rest l.files other ≡ g.F.Files.rest l.fn.files other;
   counts : (other : ℕ) → g.F.Files.faults l.files other ≡ g.F.Files.faults l.fn.files other;
 }

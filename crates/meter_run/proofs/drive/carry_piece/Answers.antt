@@ -37,8 +37,8 @@ returns-in-Some-clause-unread g c = λ stop is other told.
     c.read_piece.ensures.unread (λ none. not_some c.read_piece.result _ none c.in-Some.is) told
 
 pub returns-in-Some-clause-cause : goal.returns-in-Some-clause-cause
-returns-in-Some-clause-cause g c = went_well (g.B.Board.faults c.args.board.now)
-    (g.B.Board.faults c.args.board.now) _ (no_more (g.B.Board.faults c.args.board.now))
+returns-in-Some-clause-cause g c = went_well (g.B.Printer.faults c.args.board.now)
+    (g.B.Printer.faults c.args.board.now) _ (no_more (g.B.Printer.faults c.args.board.now))
 
 pub returns-in-Some-clause-others : goal.returns-in-Some-clause-others
 returns-in-Some-clause-others g c = c.read_piece.ensures.others

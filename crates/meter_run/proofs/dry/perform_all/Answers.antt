@@ -17,11 +17,11 @@ loop-act-preserved g c =
           c.loop-act.invariant.durable c.perform.ensures.durable;
       left = are_after c.loop-act.durable c.perform.new.durable acts n _ c.loop-act-test.true c.loop-act.invariant.left
           c.perform.ensures.durable;
-      printed = λ told. printed_more (g.B.Board.printed c.args.board.now) (g.B.Board.printed c.loop-act.board)
-          (g.B.Board.printed c.perform.new.board) acts n _ c.loop-act-test.true (c.loop-act.invariant.printed told)
+      printed = λ told. printed_more (g.B.Printer.printed c.args.board.now) (g.B.Printer.printed c.loop-act.board)
+          (g.B.Printer.printed c.perform.new.board) acts n _ c.loop-act-test.true (c.loop-act.invariant.printed told)
           (c.in_ok-perform.ensures.whole told);
       faults = c.in_ok-perform.ensures.cause.kept true_is ∙ c.loop-act.invariant.faults;
-      store = keeps_then g.B.Board c.args.board.now c.loop-act.board c.perform.new.board c.loop-act.invariant.store
+      store = keeps_then g.B.Printer c.args.board.now c.loop-act.board c.perform.new.board c.loop-act.invariant.store
           c.perform.ensures.store;
       steps = omega (arith, c.loop-act.invariant.steps, c.perform.ensures.steps);
     }
@@ -30,9 +30,9 @@ pub loop-act-init : goal.loop-act-init
 loop-act-init g c = record {
   durable = refl;
   left = c.requires;
-  printed = λ told. sym (append-nil (g.B.Board.printed c.args.board.now));
+  printed = λ told. sym (append-nil (g.B.Printer.printed c.args.board.now));
   faults = omega arith;
-  store = keeps_none g.B.Board c.args.board.now;
+  store = keeps_none g.B.Printer c.args.board.now;
   steps = omega arith;
 }
 
@@ -44,8 +44,8 @@ returns-in_err-perform-clause-whole g c = λ told. not_ok _ c.from_residual.resu
 
 pub returns-in_err-perform-clause-cause : goal.returns-in_err-perform-clause-cause
 returns-in_err-perform-clause-cause g c =
-    went_wrong (g.B.Board.faults c.args.board.now) (g.B.Board.faults c.loop-act.board)
-    (g.B.Board.faults c.perform.new.board) _ c.from_residual.result c.from_residual.ensures.0
+    went_wrong (g.B.Printer.faults c.args.board.now) (g.B.Printer.faults c.loop-act.board)
+    (g.B.Printer.faults c.perform.new.board) _ c.from_residual.result c.from_residual.ensures.0
     c.loop-act.invariant.faults c.in_err-perform.ensures.cause
 
 pub returns-in_err-perform-clause-steps : goal.returns-in_err-perform-clause-steps
@@ -53,13 +53,13 @@ returns-in_err-perform-clause-steps g c =
     omega (arith, c.loop-act-test.true, c.loop-act.invariant.steps, c.perform.ensures.steps)
 
 pub returns-in_err-perform-clause-store : goal.returns-in_err-perform-clause-store
-returns-in_err-perform-clause-store g c = keeps_then g.B.Board c.args.board.now c.loop-act.board c.perform.new.board
+returns-in_err-perform-clause-store g c = keeps_then g.B.Printer c.args.board.now c.loop-act.board c.perform.new.board
     c.loop-act.invariant.store c.perform.ensures.store
 
 pub returns-in_err-perform-clause-begun : goal.returns-in_err-perform-clause-begun
 returns-in_err-perform-clause-begun g c = λ told.
-    begins_at (g.B.Board.printed c.args.board.now) (g.B.Board.printed c.loop-act.board)
-    (g.B.Board.printed c.perform.new.board) c.args.acts.now c.loop-act.act-index _ c.loop-act-test.true
+    begins_at (g.B.Printer.printed c.args.board.now) (g.B.Printer.printed c.loop-act.board)
+    (g.B.Printer.printed c.perform.new.board) c.args.acts.now c.loop-act.act-index _ c.loop-act-test.true
     (c.loop-act.invariant.printed told) (c.perform.ensures.begun told)
 
 pub returns-clause-durable : goal.returns-clause-durable
@@ -68,16 +68,18 @@ returns-clause-durable g c = c.loop-act.invariant.durable
 
 pub returns-clause-whole : goal.returns-clause-whole
 returns-clause-whole g c = λ told.
-    c.loop-act.invariant.printed told ∙ ap (λ (acts : List Act). g.B.Board.printed c.args.board.now ++ shown_texts acts)
+    c.loop-act.invariant.printed told ∙ ap (λ (acts : List Act). g.B.Printer.printed c.args.board.now ++ shown_texts
+    acts)
     (take_all c.loop-act.act-index c.args.acts.now c.loop-act-test.false)
 
 pub returns-clause-cause : goal.returns-clause-cause
 returns-clause-cause g c =
-    went_well (g.B.Board.faults c.args.board.now) (g.B.Board.faults c.loop-act.board) tt c.loop-act.invariant.faults
+    went_well (g.B.Printer.faults c.args.board.now) (g.B.Printer.faults c.loop-act.board) tt c.loop-act.invariant.faults
 
 pub returns-clause-store : goal.returns-clause-store
 returns-clause-store g c = c.loop-act.invariant.store
 
 pub returns-clause-begun : goal.returns-clause-begun
-returns-clause-begun g c = λ told. begins_end (g.B.Board.printed c.args.board.now) (g.B.Board.printed c.loop-act.board)
+returns-clause-begun g c = λ told. begins_end (g.B.Printer.printed c.args.board.now)
+    (g.B.Printer.printed c.loop-act.board)
     c.args.acts.now c.loop-act.act-index c.loop-act-test.false (c.loop-act.invariant.printed told)

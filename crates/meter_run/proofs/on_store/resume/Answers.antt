@@ -45,9 +45,9 @@ returns-clause-attempts g c =
     let done = c.do_acts-done.ensures in
     let lawful =
     subst (λ (acts : List Act). All (IsLawfulAct t found.durable.number) acts) (sym e) c.resume-core.ensures.ranges in
-    let may : MayDo g.B.Board t found c.args.board.now acts =
+    let may : MayDo g.B.Printer t found c.args.board.now acts =
     record { agrees = c.requires.agrees; number = found.durable.number; lawful = lawful } in
-    event_attempted g.B.Board t k (record { core = core; known = Some found }) c.args.board.now found
+    event_attempted g.B.Printer t k (record { core = core; known = Some found }) c.args.board.now found
     c.resume-core.result.0 c.do_acts-done.new.board (Up c.args.second) acts refl
     (came_as t k core found.durable c.resume-core.result.0 c.args.second acts c.resume-core.result.1.items e
     c.requires.off c.resume-core.ensures.meets) (λ told. done.points told t may) done.beside

@@ -26,7 +26,7 @@ print_text-requires-clause-few g c =
 pub returns-clause-printed : goal.returns-clause-printed
 returns-clause-printed g c =
     let text = display_text c.args.display.now in
-    subst (λ (bytes : List ℕ). PrintsText g.B.Board c.args.board.now bytes c.print_text.new.board c.print_text.result)
+    subst (λ (bytes : List ℕ). PrintsText g.B.Printer c.args.board.now bytes c.print_text.new.board c.print_text.result)
     (has_text c.new-line.result.items c.put_display.new.line.items c.as_slice.result.now text c.as_slice.ensures.value
     (rw c.unwrap.ensures at c.put_display.ensures.ok) c.new-line.ensures) c.print_text.ensures.printed
 

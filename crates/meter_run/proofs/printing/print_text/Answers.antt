@@ -10,7 +10,7 @@ returns-clause-printed g c =
       whole = print.whole;
       begun = print.begun;
       cause = print.cause;
-      store = keeps_print g.B.Board a b c.args.text.now print.image print.flight print.time;
+      store = keeps_print g.B.Printer a b c.args.text.now print.image print.flight print.time;
       leaves =
-          leaves_print g.B.Board a b c.args.text.now print.image print.flight print.time (g.met.B.Board.only_now a);
+          leaves_print g.B.Printer a b c.args.text.now print.image print.flight print.time (g.met.B.Printer.only_now a);
     }

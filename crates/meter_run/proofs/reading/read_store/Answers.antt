@@ -20,9 +20,9 @@ returns-in-Ok-Latest-clause-agrees g c = λ x is.
     subst (λ (f : Found Durable). IsValidFinding IsDurable f) c.in-Ok-Latest.field-0-is c.in-Ok-Latest.ensures.sound in
     record {
       slot = subst (λ (k : Known). k.place.slot ≤ 1) (sym same) sound.0;
-      settled = λ told. subst (λ (k : Known). HoldsState g.B.Board k.place b k.durable) (sym same)
-          (subst (λ (f : Found Durable). IsAsFound reads state_number_of 0 (g.B.Board.image b)
-          (g.B.Board.in_flight b) f) c.in-Ok-Latest.field-0-is (c.in-Ok-Latest.ensures.settled told));
+      settled = λ told. subst (λ (k : Known). HoldsState g.B.Printer k.place b k.durable) (sym same)
+          (subst (λ (f : Found Durable). IsAsFound reads state_number_of 0 (g.B.Printer.image b)
+          (g.B.Printer.in_flight b) f) c.in-Ok-Latest.field-0-is (c.in-Ok-Latest.ensures.settled told));
       fits = c.where_it_fits.ensures.fits x is;
     }
 
@@ -36,7 +36,7 @@ pub returns-in-Ok-Latest-clause-finds : goal.returns-in-Ok-Latest-clause-finds
 returns-in-Ok-Latest-clause-finds g c = λ told place d settled fits.
     let p = c.in-Ok-Latest.place in
     let b = c.in-Ok-Latest.body in
-    let e = found_is c.in-Ok-Latest.field-0 p b place d (g.B.Board.image c.args.board.now) c.in-Ok-Latest.field-0-is
+    let e = found_is c.in-Ok-Latest.field-0 p b place d (g.B.Printer.image c.args.board.now) c.in-Ok-Latest.field-0-is
     settled.is_at (c.in-Ok-Latest.ensures.exact told (answers c.in-Ok-Latest.field-0)) in (
       record { durable = b; place = p },
       (
@@ -47,62 +47,62 @@ returns-in-Ok-Latest-clause-finds g c = λ told place d settled fits.
 
 pub returns-in-Ok-Latest-clause-points : goal.returns-in-Ok-Latest-clause-points
 returns-in-Ok-Latest-clause-points g c =
-    λ told seal place d settled fits. scan_point g.B.Board c.args.tables.now seal c.args.board.now c.scan.new.board d
+    λ told seal place d settled fits. scan_point g.B.Printer c.args.tables.now seal c.args.board.now c.scan.new.board d
     place settled fits c.scan.ensures.reads.image c.scan.ensures.reads.leaves c.scan.ensures.reads.text
 
 pub returns-in-Ok-Latest-clause-beside : goal.returns-in-Ok-Latest-clause-beside
-returns-in-Ok-Latest-clause-beside g c = λ told. beside_scan g.B.Board c.args.board.now c.scan.new.board
+returns-in-Ok-Latest-clause-beside g c = λ told. beside_scan g.B.Printer c.args.board.now c.scan.new.board
     c.scan.ensures.reads.image c.scan.ensures.reads.flight c.scan.ensures.reads.leaves
 
 pub returns-in-Ok-Blank-clause-finds : goal.returns-in-Ok-Blank-clause-finds
 returns-in-Ok-Blank-clause-finds g c =
-    λ told place d settled fits. absurd (not_blank c.in-Ok-Blank.field-0 place d (g.B.Board.image c.args.board.now)
+    λ told place d settled fits. absurd (not_blank c.in-Ok-Blank.field-0 place d (g.B.Printer.image c.args.board.now)
     c.in-Ok-Blank.field-0-is settled.is_at (c.in-Ok-Blank.ensures.exact told (answers c.in-Ok-Blank.field-0)))
 
 pub returns-in-Ok-Blank-clause-points : goal.returns-in-Ok-Blank-clause-points
 returns-in-Ok-Blank-clause-points g c =
-    λ told seal place d settled fits. scan_point g.B.Board c.args.tables.now seal c.args.board.now c.scan.new.board d
+    λ told seal place d settled fits. scan_point g.B.Printer c.args.tables.now seal c.args.board.now c.scan.new.board d
     place settled fits c.scan.ensures.reads.image c.scan.ensures.reads.leaves c.scan.ensures.reads.text
 
 pub returns-in-Ok-Blank-clause-beside : goal.returns-in-Ok-Blank-clause-beside
-returns-in-Ok-Blank-clause-beside g c = λ told. beside_scan g.B.Board c.args.board.now c.scan.new.board
+returns-in-Ok-Blank-clause-beside g c = λ told. beside_scan g.B.Printer c.args.board.now c.scan.new.board
     c.scan.ensures.reads.image c.scan.ensures.reads.flight c.scan.ensures.reads.leaves
 
 pub returns-in-Err-DeviceFailed-clause-points : goal.returns-in-Err-DeviceFailed-clause-points
 returns-in-Err-DeviceFailed-clause-points g c =
-    λ told seal place d settled fits. scan_point g.B.Board c.args.tables.now seal c.args.board.now c.scan.new.board d
+    λ told seal place d settled fits. scan_point g.B.Printer c.args.tables.now seal c.args.board.now c.scan.new.board d
     place settled fits c.scan.ensures.reads.image c.scan.ensures.reads.leaves c.scan.ensures.reads.text
 
 pub returns-in-Err-DeviceFailed-clause-beside : goal.returns-in-Err-DeviceFailed-clause-beside
-returns-in-Err-DeviceFailed-clause-beside g c = λ told. beside_scan g.B.Board c.args.board.now c.scan.new.board
+returns-in-Err-DeviceFailed-clause-beside g c = λ told. beside_scan g.B.Printer c.args.board.now c.scan.new.board
     c.scan.ensures.reads.image c.scan.ensures.reads.flight c.scan.ensures.reads.leaves
 
 pub returns-in-Err-BadBody-clause-finds : goal.returns-in-Err-BadBody-clause-finds
 returns-in-Err-BadBody-clause-finds g c = λ told place d settled fits.
-    absurd (no_fault c.in-Err-BadBody.field-0 place d (g.B.Board.image c.args.board.now) settled.is_at
+    absurd (no_fault c.in-Err-BadBody.field-0 place d (g.B.Printer.image c.args.board.now) settled.is_at
     (c.in-Err-BadBody.ensures.exact told (bad_body c.in-Err-BadBody.field-0 _ c.in-Err-BadBody.field-0-is)))
 
 pub returns-in-Err-BadBody-clause-points : goal.returns-in-Err-BadBody-clause-points
 returns-in-Err-BadBody-clause-points g c =
-    λ told seal place d settled fits. scan_point g.B.Board c.args.tables.now seal c.args.board.now c.scan.new.board d
+    λ told seal place d settled fits. scan_point g.B.Printer c.args.tables.now seal c.args.board.now c.scan.new.board d
     place settled fits c.scan.ensures.reads.image c.scan.ensures.reads.leaves c.scan.ensures.reads.text
 
 pub returns-in-Err-BadBody-clause-beside : goal.returns-in-Err-BadBody-clause-beside
-returns-in-Err-BadBody-clause-beside g c = λ told. beside_scan g.B.Board c.args.board.now c.scan.new.board
+returns-in-Err-BadBody-clause-beside g c = λ told. beside_scan g.B.Printer c.args.board.now c.scan.new.board
     c.scan.ensures.reads.image c.scan.ensures.reads.flight c.scan.ensures.reads.leaves
 
 pub returns-in-Err-SameNumber-clause-finds : goal.returns-in-Err-SameNumber-clause-finds
 returns-in-Err-SameNumber-clause-finds g c = λ told place d settled fits.
-    absurd (no_fault c.in-Err-SameNumber.field-0 place d (g.B.Board.image c.args.board.now) settled.is_at
+    absurd (no_fault c.in-Err-SameNumber.field-0 place d (g.B.Printer.image c.args.board.now) settled.is_at
     (c.in-Err-SameNumber.ensures.exact told (same_number c.in-Err-SameNumber.field-0 _ c.in-Err-SameNumber.field-0-is)))
 
 pub returns-in-Err-SameNumber-clause-points : goal.returns-in-Err-SameNumber-clause-points
 returns-in-Err-SameNumber-clause-points g c =
-    λ told seal place d settled fits. scan_point g.B.Board c.args.tables.now seal c.args.board.now c.scan.new.board d
+    λ told seal place d settled fits. scan_point g.B.Printer c.args.tables.now seal c.args.board.now c.scan.new.board d
     place settled fits c.scan.ensures.reads.image c.scan.ensures.reads.leaves c.scan.ensures.reads.text
 
 pub returns-in-Err-SameNumber-clause-beside : goal.returns-in-Err-SameNumber-clause-beside
-returns-in-Err-SameNumber-clause-beside g c = λ told. beside_scan g.B.Board c.args.board.now c.scan.new.board
+returns-in-Err-SameNumber-clause-beside g c = λ told. beside_scan g.B.Printer c.args.board.now c.scan.new.board
     c.scan.ensures.reads.image c.scan.ensures.reads.flight c.scan.ensures.reads.leaves
 
 pub returns-in-Ok-Latest-clause-text : goal.returns-in-Ok-Latest-clause-text
@@ -165,13 +165,13 @@ returns-in-Err-SameNumber-clause-steps g c = few c.args.steps.now c.scan.new.ste
 -- ---- the board's count
 
 pub returns-in-Ok-Latest-clause-cause : goal.returns-in-Ok-Latest-clause-cause
-returns-in-Ok-Latest-clause-cause g c = went_well (g.B.Board.faults c.args.board.now)
-    (g.B.Board.faults c.scan.new.board) _
+returns-in-Ok-Latest-clause-cause g c = went_well (g.B.Printer.faults c.args.board.now)
+    (g.B.Printer.faults c.scan.new.board) _
     (c.in-Ok-Latest.ensures.cause.kept (λ no. absurd cc))
 
 pub returns-in-Ok-Blank-clause-cause : goal.returns-in-Ok-Blank-clause-cause
-returns-in-Ok-Blank-clause-cause g c = went_well (g.B.Board.faults c.args.board.now)
-    (g.B.Board.faults c.scan.new.board) _
+returns-in-Ok-Blank-clause-cause g c = went_well (g.B.Printer.faults c.args.board.now)
+    (g.B.Printer.faults c.scan.new.board) _
     (c.in-Ok-Blank.ensures.cause.kept (λ no. absurd cc))
 
 pub returns-in-Err-DeviceFailed-clause-cause : goal.returns-in-Err-DeviceFailed-clause-cause
@@ -181,11 +181,11 @@ returns-in-Err-DeviceFailed-clause-cause g c = record {
 }
 
 pub returns-in-Err-BadBody-clause-cause : goal.returns-in-Err-BadBody-clause-cause
-returns-in-Err-BadBody-clause-cause g c = went_well (g.B.Board.faults c.args.board.now)
-    (g.B.Board.faults c.scan.new.board) _
+returns-in-Err-BadBody-clause-cause g c = went_well (g.B.Printer.faults c.args.board.now)
+    (g.B.Printer.faults c.scan.new.board) _
     (c.in-Err-BadBody.ensures.cause.kept (λ no. absurd (cc c.in-Err-BadBody.field-0-is)))
 
 pub returns-in-Err-SameNumber-clause-cause : goal.returns-in-Err-SameNumber-clause-cause
-returns-in-Err-SameNumber-clause-cause g c = went_well (g.B.Board.faults c.args.board.now)
-    (g.B.Board.faults c.scan.new.board) _
+returns-in-Err-SameNumber-clause-cause g c = went_well (g.B.Printer.faults c.args.board.now)
+    (g.B.Printer.faults c.scan.new.board) _
     (c.in-Err-SameNumber.ensures.cause.kept (λ no. absurd (cc c.in-Err-SameNumber.field-0-is)))

@@ -25,8 +25,8 @@ loop-done-preserved g c =
           p (i + 1) n c.args.meter.now c.args.board.now c.carry_interval.new.meter c.carry_interval.new.board
           c.carry_equal-done.new.self c.carry_interval.new.board one
           (c.carry_equal-done.ensures.carried c.carry_interval.new.board c.in_ok-carry_interval.ensures.ready);
-      faults = counts_more (g.B.Board.faults c.args.board.now) (g.B.Board.faults c.loop-done.board)
-          (g.B.Board.faults c.carry_interval.new.board) c.loop-done.invariant.faults
+      faults = counts_more (g.B.Printer.faults c.args.board.now) (g.B.Printer.faults c.loop-done.board)
+          (g.B.Printer.faults c.carry_interval.new.board) c.loop-done.invariant.faults
           (c.in_ok-carry_interval.ensures.cause.kept true_is);
       steps = bounded_further p (i + 1) n c.args.steps.now c.carry_interval.new.steps
           (bounded_at_interval p i (i + 1) c.args.steps.now c.loop-done.steps c.carry_interval.new.steps
@@ -58,7 +58,7 @@ loop-done-init g c = record {
   few = omega arith;
   ready = c.requires.ready;
   carried = g.met.C.Carrier.nothing c.args.by.now c.args.meter.now c.args.board.now c.requires.ready;
-  faults = no_more (g.B.Board.faults c.args.board.now);
+  faults = no_more (g.B.Printer.faults c.args.board.now);
   steps = omega arith;
 }
 
@@ -73,8 +73,8 @@ returns-in_err-carry_interval-clause-carried g c = not_ok _ c.from_residual.resu
 
 pub returns-in_err-carry_interval-clause-cause : goal.returns-in_err-carry_interval-clause-cause
 returns-in_err-carry_interval-clause-cause g c =
-    went_wrong (g.B.Board.faults c.args.board.now) (g.B.Board.faults c.loop-done.board)
-    (g.B.Board.faults c.carry_interval.new.board) _ c.from_residual.result c.from_residual.ensures.0
+    went_wrong (g.B.Printer.faults c.args.board.now) (g.B.Printer.faults c.loop-done.board)
+    (g.B.Printer.faults c.carry_interval.new.board) _ c.from_residual.result c.from_residual.ensures.0
     c.loop-done.invariant.faults c.in_err-carry_interval.ensures.cause
 
 pub returns-clause-ready : goal.returns-clause-ready
@@ -85,7 +85,8 @@ returns-clause-broke_off g c = tt
 
 pub returns-clause-cause : goal.returns-clause-cause
 returns-clause-cause g c =
-    went_well (g.B.Board.faults c.args.board.now) (g.B.Board.faults c.loop-done.board) tt c.loop-done.invariant.faults
+    went_well (g.B.Printer.faults c.args.board.now) (g.B.Printer.faults c.loop-done.board) tt
+    c.loop-done.invariant.faults
 
 pub returns-clause-steps : goal.returns-clause-steps
 returns-clause-steps g c =

@@ -7,7 +7,7 @@ invariant-loop-done g l = record {
   few : l.done ≤ l.count;
   ready : g.C.Carrier.ready l.by l.meter l.board;
   carried : g.C.Carrier.carried l.by l.fn.meter l.fn.board (intervals_events l.pulses l.done) l.meter l.board;
-  faults : g.B.Board.faults l.board ≡ g.B.Board.faults l.fn.board;
+  faults : g.B.Printer.faults l.board ≡ g.B.Printer.faults l.fn.board;
   steps : IsBounded l.fn.steps l.steps (intervals_events l.pulses l.done);
 }
 

@@ -15,8 +15,8 @@ loop-run-preserved g c =
           (g.met.C.Carrier.later r) (g.met.C.Carrier.sooner r)
           runs i _ c.args.meter.now c.args.board.now c.loop-run.meter c.loop-run.board c.carry_run.new.meter
           c.carry_run.new.board c.loop-run-test.true c.loop-run.invariant.carried c.in_ok-carry_run.ensures.carried;
-      faults = counts_more (g.B.Board.faults c.args.board.now) (g.B.Board.faults c.loop-run.board)
-          (g.B.Board.faults c.carry_run.new.board) c.loop-run.invariant.faults
+      faults = counts_more (g.B.Printer.faults c.args.board.now) (g.B.Printer.faults c.loop-run.board)
+          (g.B.Printer.faults c.carry_run.new.board) c.loop-run.invariant.faults
           (c.in_ok-carry_run.ensures.cause.kept true_is);
       steps = bounded_run runs i _ c.args.steps.now c.loop-run.steps c.carry_run.new.steps c.loop-run-test.true
           c.loop-run.invariant.steps c.carry_run.ensures.steps;
@@ -39,7 +39,7 @@ pub loop-run-init : goal.loop-run-init
 loop-run-init g c = record {
   ready = c.requires.ready;
   carried = g.met.C.Carrier.nothing c.args.by.now c.args.meter.now c.args.board.now c.requires.ready;
-  faults = no_more (g.B.Board.faults c.args.board.now);
+  faults = no_more (g.B.Printer.faults c.args.board.now);
   steps = omega arith;
 }
 
@@ -51,8 +51,8 @@ returns-in_err-carry_run-clause-carried g c = not_ok _ c.from_residual.result _ 
 
 pub returns-in_err-carry_run-clause-cause : goal.returns-in_err-carry_run-clause-cause
 returns-in_err-carry_run-clause-cause g c =
-    went_wrong (g.B.Board.faults c.args.board.now) (g.B.Board.faults c.loop-run.board)
-    (g.B.Board.faults c.carry_run.new.board) _ c.from_residual.result c.from_residual.ensures.0
+    went_wrong (g.B.Printer.faults c.args.board.now) (g.B.Printer.faults c.loop-run.board)
+    (g.B.Printer.faults c.carry_run.new.board) _ c.from_residual.result c.from_residual.ensures.0
     c.loop-run.invariant.faults c.in_err-carry_run.ensures.cause
 
 pub returns-clause-ready : goal.returns-clause-ready
@@ -69,7 +69,7 @@ returns-clause-broke_off g c = tt
 
 pub returns-clause-cause : goal.returns-clause-cause
 returns-clause-cause g c =
-    went_well (g.B.Board.faults c.args.board.now) (g.B.Board.faults c.loop-run.board) tt c.loop-run.invariant.faults
+    went_well (g.B.Printer.faults c.args.board.now) (g.B.Printer.faults c.loop-run.board) tt c.loop-run.invariant.faults
 
 pub returns-clause-steps : goal.returns-clause-steps
 returns-clause-steps g c =

@@ -4,15 +4,16 @@ use Rattle.meter_run.proofs.{EventOnStore.{carried_one, stopped_one}, RunEnds.{n
 use Rattle.meter_run.proofs.store_drive.drop_at_end.Goals as goal
 
 pub returns-then-is_off-clause-carried : goal.returns-then-is_off-clause-carried
-returns-then-is_off-clause-carried g c = ends_off g.B.Board c.args.tables.now c.args.seal.now c.args.meter.now
-    c.args.board.now (g.met.B.Board.only_now c.args.board.now) (c.is_off.ensures.0 c.if-is_off.true)
+returns-then-is_off-clause-carried g c = ends_off g.B.Printer c.args.tables.now c.args.seal.now c.args.meter.now
+    c.args.board.now (g.met.B.Printer.only_now c.args.board.now) (c.is_off.ensures.0 c.if-is_off.true)
 
 pub returns-then-is_off-clause-stopped : goal.returns-then-is_off-clause-stopped
 returns-then-is_off-clause-stopped g c =
     let x = c.args.meter.now in
     let a = c.args.board.now in
-    amid_of g.B.Board c.args.tables.now c.args.seal.now (λ s m. ended s m) x a x a (ends_off g.B.Board c.args.tables.now
-    c.args.seal.now x a (g.met.B.Board.only_now a) (c.is_off.ensures.0 c.if-is_off.true))
+    amid_of g.B.Printer c.args.tables.now c.args.seal.now (λ s m. ended s m) x a x a
+    (ends_off g.B.Printer c.args.tables.now
+    c.args.seal.now x a (g.met.B.Printer.only_now a) (c.is_off.ensures.0 c.if-is_off.true))
 
 pub returns-clause-carried : goal.returns-clause-carried
 returns-clause-carried g c =
@@ -23,9 +24,9 @@ returns-clause-carried g c =
     let y = c.carry_event.new.self in
     let b = c.carry_event.new.board in
     let done = c.carry_event.ensures in
-    on_ok_weaker c.carry_event.result (λ h. ends_on g.B.Board t k x a y b
+    on_ok_weaker c.carry_event.result (λ h. ends_on g.B.Printer t k x a y b
     (not_told c.is_off.result _ c.is_off.ensures.1 c.if-is_off.false) h.out)
-    (carried_one g.B.Board t k c.carry_event.result x a y b Down done.attempts done.supply)
+    (carried_one g.B.Printer t k c.carry_event.result x a y b Down done.attempts done.supply)
 
 pub returns-clause-stopped : goal.returns-clause-stopped
 returns-clause-stopped g c =
@@ -37,10 +38,10 @@ returns-clause-stopped g c =
     let b = c.carry_event.new.board in
     let r = c.carry_event.result in
     let done = c.carry_event.ensures in
-    ends_amid g.B.Board t k x a b (not_told c.is_off.result _ c.is_off.ensures.1 c.if-is_off.false)
-    (amid_either g.B.Board t k r (Down ∷ []) x a y b
-    (carried_one g.B.Board t k r x a y b Down done.attempts done.supply)
-    (stopped_one g.B.Board t k r x a y b Down done.attempts))
+    ends_amid g.B.Printer t k x a b (not_told c.is_off.result _ c.is_off.ensures.1 c.if-is_off.false)
+    (amid_either g.B.Printer t k r (Down ∷ []) x a y b
+    (carried_one g.B.Printer t k r x a y b Down done.attempts done.supply)
+    (stopped_one g.B.Printer t k r x a y b Down done.attempts))
 
 pub returns-clause-cause : goal.returns-clause-cause
 returns-clause-cause g c = c.carry_event.ensures.attempts.cause

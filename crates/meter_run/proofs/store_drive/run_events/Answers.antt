@@ -7,7 +7,7 @@ use Rattle.meter_run.proofs.store_drive.run_events.Goals as goal
 
 pub carry_drive-requires : goal.carry_drive-requires
 carry_drive-requires g c = record {
-  ready = ready_new g.B.Board c.args.tables.now c.args.seal.now c.new-meter.result c.args.board.now
+  ready = ready_new g.B.Printer c.args.tables.now c.args.seal.now c.new-meter.result c.args.board.now
       (secured_of c.args.tables.now c.args.seal.now c.recall.ensures.compiled c.requires.constant c.requires.seal)
       (c.new-meter.ensures.lawful c.args.tables.now c.args.seal.now) c.new-meter.ensures.off
       c.new-meter.ensures.unknown;
@@ -18,46 +18,48 @@ drop_at_end-requires g c = record { ready = c.in-Ok.ensures.ready }
 
 pub returns-in-Ok-drop_at_end-clause-ends : goal.returns-in-Ok-drop_at_end-clause-ends
 returns-in-Ok-drop_at_end-clause-ends g c = λ tells. rw c.answer.ensures
-    (ran_whole g.B.Board c.args.tables.now c.args.seal.now c.new-meter.result c.args.board.now c.new-meter.ensures.off
+    (ran_whole g.B.Printer c.args.tables.now c.args.seal.now c.new-meter.result c.args.board.now c.new-meter.ensures.off
     c.new-meter.ensures.unknown c.carry_drive.new.meter c.carry_drive.new.board c.drop_at_end.new.meter
     c.drop_at_end.new.board c.in-Ok.ensures.carried c.in-Ok-drop_at_end.ensures.carried tells).ends
 
 pub returns-in-Err-drop_at_end-clause-ends : goal.returns-in-Err-drop_at_end-clause-ends
 returns-in-Err-drop_at_end-clause-ends g c = λ tells.
-    (ran_to_end g.B.Board c.args.tables.now c.args.seal.now c.new-meter.result c.args.board.now c.new-meter.ensures.off
+    (ran_to_end g.B.Printer c.args.tables.now c.args.seal.now c.new-meter.result c.args.board.now
+    c.new-meter.ensures.off
     c.new-meter.ensures.unknown c.carry_drive.new.meter c.carry_drive.new.board c.drop_at_end.new.board
     c.in-Ok.ensures.carried c.drop_at_end.ensures.stopped tells).ends
 
 pub returns-in-Err-clause-ends : goal.returns-in-Err-clause-ends
 returns-in-Err-clause-ends g c = λ tells.
-    (ran_amid g.B.Board c.args.tables.now c.args.seal.now c.new-meter.result c.args.board.now c.new-meter.ensures.off
+    (ran_amid g.B.Printer c.args.tables.now c.args.seal.now c.new-meter.result c.args.board.now c.new-meter.ensures.off
     c.new-meter.ensures.unknown c.carry_drive.new.board c.in-Err.ensures.broke_off tells).ends
 
 pub returns-in-Ok-drop_at_end-clause-cuts : goal.returns-in-Ok-drop_at_end-clause-cuts
 returns-in-Ok-drop_at_end-clause-cuts g c = λ tells.
-    (ran_whole g.B.Board c.args.tables.now c.args.seal.now c.new-meter.result c.args.board.now c.new-meter.ensures.off
+    (ran_whole g.B.Printer c.args.tables.now c.args.seal.now c.new-meter.result c.args.board.now c.new-meter.ensures.off
     c.new-meter.ensures.unknown c.carry_drive.new.meter c.carry_drive.new.board c.drop_at_end.new.meter
     c.drop_at_end.new.board c.in-Ok.ensures.carried c.in-Ok-drop_at_end.ensures.carried tells).cuts
 
 pub returns-in-Err-drop_at_end-clause-cuts : goal.returns-in-Err-drop_at_end-clause-cuts
 returns-in-Err-drop_at_end-clause-cuts g c = λ tells.
-    (ran_to_end g.B.Board c.args.tables.now c.args.seal.now c.new-meter.result c.args.board.now c.new-meter.ensures.off
+    (ran_to_end g.B.Printer c.args.tables.now c.args.seal.now c.new-meter.result c.args.board.now
+    c.new-meter.ensures.off
     c.new-meter.ensures.unknown c.carry_drive.new.meter c.carry_drive.new.board c.drop_at_end.new.board
     c.in-Ok.ensures.carried c.drop_at_end.ensures.stopped tells).cuts
 
 pub returns-in-Err-clause-cuts : goal.returns-in-Err-clause-cuts
 returns-in-Err-clause-cuts g c = λ tells.
-    (ran_amid g.B.Board c.args.tables.now c.args.seal.now c.new-meter.result c.args.board.now c.new-meter.ensures.off
+    (ran_amid g.B.Printer c.args.tables.now c.args.seal.now c.new-meter.result c.args.board.now c.new-meter.ensures.off
     c.new-meter.ensures.unknown c.carry_drive.new.board c.in-Err.ensures.broke_off tells).cuts
 
 pub returns-in-Ok-drop_at_end-clause-beside : goal.returns-in-Ok-drop_at_end-clause-beside
 returns-in-Ok-drop_at_end-clause-beside g c =
-    λ told. beside_then g.B.Board c.args.board.now c.carry_drive.new.board c.drop_at_end.new.board
+    λ told. beside_then g.B.Printer c.args.board.now c.carry_drive.new.board c.drop_at_end.new.board
     (c.in-Ok.ensures.carried.carried.out.beside told) (c.drop_at_end.ensures.stopped.beside told)
 
 pub returns-in-Err-drop_at_end-clause-beside : goal.returns-in-Err-drop_at_end-clause-beside
 returns-in-Err-drop_at_end-clause-beside g c =
-    λ told. beside_then g.B.Board c.args.board.now c.carry_drive.new.board c.drop_at_end.new.board
+    λ told. beside_then g.B.Printer c.args.board.now c.carry_drive.new.board c.drop_at_end.new.board
     (c.in-Ok.ensures.carried.carried.out.beside told) (c.drop_at_end.ensures.stopped.beside told)
 
 pub returns-in-Err-clause-beside : goal.returns-in-Err-clause-beside
@@ -72,8 +74,8 @@ returns-in-Ok-drop_at_end-clause-complete g c = λ tells whole calm still.
 
 pub returns-in-Err-drop_at_end-clause-complete : goal.returns-in-Err-drop_at_end-clause-complete
 returns-in-Err-drop_at_end-clause-complete g c = λ tells whole calm still.
-    absurd (still (rose_behind (g.B.Board.faults c.args.board.now) (g.B.Board.faults c.carry_drive.new.board)
-    (g.B.Board.faults c.drop_at_end.new.board) (c.in-Ok.ensures.cause.kept true_is)
+    absurd (still (rose_behind (g.B.Printer.faults c.args.board.now) (g.B.Printer.faults c.carry_drive.new.board)
+    (g.B.Printer.faults c.drop_at_end.new.board) (c.in-Ok.ensures.cause.kept true_is)
     (c.in-Err-drop_at_end.ensures.cause.failed true_is)))
 
 pub returns-in-Err-clause-complete : goal.returns-in-Err-clause-complete
@@ -130,8 +132,8 @@ returns-in-Ok-drop_at_end-clause-board_fault g c =
 
 pub returns-in-Err-drop_at_end-clause-board_fault : goal.returns-in-Err-drop_at_end-clause-board_fault
 returns-in-Err-drop_at_end-clause-board_fault g c = rises_by refl
-    (rose_behind (g.B.Board.faults c.args.board.now) (g.B.Board.faults c.carry_drive.new.board)
-    (g.B.Board.faults c.drop_at_end.new.board)
+    (rose_behind (g.B.Printer.faults c.args.board.now) (g.B.Printer.faults c.carry_drive.new.board)
+    (g.B.Printer.faults c.drop_at_end.new.board)
     (c.in-Ok.ensures.cause.kept true_is) (c.in-Err-drop_at_end.ensures.cause.failed true_is))
 
 pub returns-in-Err-clause-board_fault : goal.returns-in-Err-clause-board_fault

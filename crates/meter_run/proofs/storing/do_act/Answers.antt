@@ -7,53 +7,53 @@ use Rattle.meter_run.proofs.{BoardDeeds.{agrees_kept, beside_kept, print_point},
 use Rattle.meter_run.proofs.storing.do_act.Goals as goal
 
 pub returns-in-Show-clause-agrees : goal.returns-in-Show-clause-agrees
-returns-in-Show-clause-agrees g c = λ tables may. on_ok c.print_display.result _ (agrees_kept g.B.Board tables
+returns-in-Show-clause-agrees g c = λ tables may. on_ok c.print_display.result _ (agrees_kept g.B.Printer tables
     c.args.known.now c.args.board.now c.print_display.new.board c.print_display.ensures.printed.store may.agrees)
 
 pub returns-in-Show-clause-points : goal.returns-in-Show-clause-points
 returns-in-Show-clause-points g c = λ told tables may.
     let known = c.args.known.now in
-    print_point g.B.Board tables c.args.seal.now c.args.board.now c.print_display.new.board known.durable known.place
+    print_point g.B.Printer tables c.args.seal.now c.args.board.now c.print_display.new.board known.durable known.place
     (Does c.args.act.now) (display_text c.in-Show.display) (ap (act_text c.args.seal.now) c.in-Show.is)
     (may.agrees.settled told) may.agrees.fits c.print_display.ensures.printed.store
     c.print_display.ensures.printed.leaves c.print_display.ensures.printed.begun
 
 pub returns-in-Show-clause-beside : goal.returns-in-Show-clause-beside
-returns-in-Show-clause-beside g c = λ told. beside_kept g.B.Board c.args.board.now c.print_display.new.board
-    (g.met.B.Board.only_now c.args.board.now) c.print_display.ensures.printed.store
+returns-in-Show-clause-beside g c = λ told. beside_kept g.B.Printer c.args.board.now c.print_display.new.board
+    (g.met.B.Printer.only_now c.args.board.now) c.print_display.ensures.printed.store
 
 pub returns-in-Refuse-clause-agrees : goal.returns-in-Refuse-clause-agrees
-returns-in-Refuse-clause-agrees g c = λ tables may. on_ok c.print_refusal.result _ (agrees_kept g.B.Board tables
+returns-in-Refuse-clause-agrees g c = λ tables may. on_ok c.print_refusal.result _ (agrees_kept g.B.Printer tables
     c.args.known.now c.args.board.now c.print_refusal.new.board c.print_refusal.ensures.printed.store may.agrees)
 
 pub returns-in-Refuse-clause-points : goal.returns-in-Refuse-clause-points
 returns-in-Refuse-clause-points g c = λ told tables may.
     let known = c.args.known.now in
-    print_point g.B.Board tables c.args.seal.now c.args.board.now c.print_refusal.new.board known.durable known.place
+    print_point g.B.Printer tables c.args.seal.now c.args.board.now c.print_refusal.new.board known.durable known.place
     (Does c.args.act.now) (refusal_text c.in-Refuse.why) (ap (act_text c.args.seal.now) c.in-Refuse.is)
     (may.agrees.settled told) may.agrees.fits c.print_refusal.ensures.printed.store
     c.print_refusal.ensures.printed.leaves c.print_refusal.ensures.printed.begun
 
 pub returns-in-Refuse-clause-beside : goal.returns-in-Refuse-clause-beside
-returns-in-Refuse-clause-beside g c = λ told. beside_kept g.B.Board c.args.board.now c.print_refusal.new.board
-    (g.met.B.Board.only_now c.args.board.now) c.print_refusal.ensures.printed.store
+returns-in-Refuse-clause-beside g c = λ told. beside_kept g.B.Printer c.args.board.now c.print_refusal.new.board
+    (g.met.B.Printer.only_now c.args.board.now) c.print_refusal.ensures.printed.store
 
 pub returns-in-Receipt-clause-agrees : goal.returns-in-Receipt-clause-agrees
-returns-in-Receipt-clause-agrees g c = λ tables may. on_ok c.print_receipt.result _ (agrees_kept g.B.Board tables
+returns-in-Receipt-clause-agrees g c = λ tables may. on_ok c.print_receipt.result _ (agrees_kept g.B.Printer tables
     c.args.known.now c.args.board.now c.print_receipt.new.board c.print_receipt.ensures.printed.store may.agrees)
 
 pub returns-in-Receipt-clause-points : goal.returns-in-Receipt-clause-points
 returns-in-Receipt-clause-points g c = λ told tables may.
     let known = c.args.known.now in
-    print_point g.B.Board tables c.args.seal.now c.args.board.now c.print_receipt.new.board known.durable known.place
+    print_point g.B.Printer tables c.args.seal.now c.args.board.now c.print_receipt.new.board known.durable known.place
     (Does c.args.act.now) (receipt_text c.in-Receipt.receipt (part_of_seal c.args.seal.now))
     (ap (act_text c.args.seal.now) c.in-Receipt.is)
     (may.agrees.settled told) may.agrees.fits c.print_receipt.ensures.printed.store
     c.print_receipt.ensures.printed.leaves c.print_receipt.ensures.printed.begun
 
 pub returns-in-Receipt-clause-beside : goal.returns-in-Receipt-clause-beside
-returns-in-Receipt-clause-beside g c = λ told. beside_kept g.B.Board c.args.board.now c.print_receipt.new.board
-    (g.met.B.Board.only_now c.args.board.now) c.print_receipt.ensures.printed.store
+returns-in-Receipt-clause-beside g c = λ told. beside_kept g.B.Printer c.args.board.now c.print_receipt.new.board
+    (g.met.B.Printer.only_now c.args.board.now) c.print_receipt.ensures.printed.store
 
 pub returns-in-Enter-clause-points : goal.returns-in-Enter-clause-points
 returns-in-Enter-clause-points g c =
@@ -105,7 +105,7 @@ returns-in-Show-clause-durable g c =
 
 pub returns-in-Show-clause-whole : goal.returns-in-Show-clause-whole
 returns-in-Show-clause-whole g c = λ told. prints_as c.args.seal.now c.print_display.result
-    (g.B.Board.printed c.args.board.now) (g.B.Board.printed c.print_display.new.board) c.args.act.now _ c.in-Show.is
+    (g.B.Printer.printed c.args.board.now) (g.B.Printer.printed c.print_display.new.board) c.args.act.now _ c.in-Show.is
     (c.print_display.ensures.printed.whole told)
 
 pub returns-in-Show-clause-cause : goal.returns-in-Show-clause-cause
@@ -121,7 +121,8 @@ returns-in-Refuse-clause-durable g c =
 
 pub returns-in-Refuse-clause-whole : goal.returns-in-Refuse-clause-whole
 returns-in-Refuse-clause-whole g c = λ told. prints_as c.args.seal.now c.print_refusal.result
-    (g.B.Board.printed c.args.board.now) (g.B.Board.printed c.print_refusal.new.board) c.args.act.now _ c.in-Refuse.is
+    (g.B.Printer.printed c.args.board.now) (g.B.Printer.printed c.print_refusal.new.board) c.args.act.now _
+    c.in-Refuse.is
     (c.print_refusal.ensures.printed.whole told)
 
 pub returns-in-Refuse-clause-cause : goal.returns-in-Refuse-clause-cause
@@ -137,7 +138,8 @@ returns-in-Receipt-clause-durable g c =
 
 pub returns-in-Receipt-clause-whole : goal.returns-in-Receipt-clause-whole
 returns-in-Receipt-clause-whole g c = λ told. prints_as c.args.seal.now c.print_receipt.result
-    (g.B.Board.printed c.args.board.now) (g.B.Board.printed c.print_receipt.new.board) c.args.act.now _ c.in-Receipt.is
+    (g.B.Printer.printed c.args.board.now) (g.B.Printer.printed c.print_receipt.new.board) c.args.act.now _
+    c.in-Receipt.is
     (c.print_receipt.ensures.printed.whole told)
 
 pub returns-in-Receipt-clause-cause : goal.returns-in-Receipt-clause-cause
@@ -158,7 +160,7 @@ returns-in-Enter-clause-agrees g c = λ tables may. c.store.ensures.agrees table
 
 pub returns-in-Enter-clause-whole : goal.returns-in-Enter-clause-whole
 returns-in-Enter-clause-whole g c = λ told. on_ok c.store.result _
-    (prints_none (g.B.Board.printed c.args.board.now) (g.B.Board.printed c.store.new.board)
+    (prints_none (g.B.Printer.printed c.args.board.now) (g.B.Printer.printed c.store.new.board)
     (act_text c.args.seal.now c.args.act.now) (ap (act_text c.args.seal.now) c.in-Enter.is) c.store.ensures.text)
 
 pub returns-in-Enter-clause-beside : goal.returns-in-Enter-clause-beside
@@ -182,7 +184,7 @@ returns-in-Hold-clause-agrees g c = λ tables may. c.store-in-Hold.ensures.agree
 
 pub returns-in-Hold-clause-whole : goal.returns-in-Hold-clause-whole
 returns-in-Hold-clause-whole g c = λ told. on_ok c.store-in-Hold.result _
-    (prints_none (g.B.Board.printed c.args.board.now) (g.B.Board.printed c.store-in-Hold.new.board)
+    (prints_none (g.B.Printer.printed c.args.board.now) (g.B.Printer.printed c.store-in-Hold.new.board)
     (act_text c.args.seal.now c.args.act.now) (ap (act_text c.args.seal.now) c.in-Hold.is) c.store-in-Hold.ensures.text)
 
 pub returns-in-Hold-clause-beside : goal.returns-in-Hold-clause-beside

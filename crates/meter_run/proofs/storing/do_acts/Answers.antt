@@ -14,7 +14,7 @@ do_act-requires-clause-may g c =
     let t = c.requires.may.0 in
     let may = c.requires.may.1 in (
       t,
-      may_at g.B.Board t c.args.known.now c.loop-act.known c.args.board.now c.loop-act.board c.args.acts.now
+      may_at g.B.Printer t c.args.known.now c.loop-act.known c.args.board.now c.loop-act.board c.args.acts.now
           c.loop-act.act-index _ c.loop-act-test.true may (c.loop-act.invariant.agrees t may),
     )
 
@@ -34,17 +34,17 @@ loop-act-preserved g c =
       left = are_after c.loop-act.known.durable c.do_act.new.known.durable acts n _ c.loop-act-test.true i.left
           c.in_ok-do_act.ensures.durable;
       agrees = λ tables may. c.in_ok-do_act.ensures.agrees tables
-          (may_at g.B.Board tables c.args.known.now c.loop-act.known c.args.board.now c.loop-act.board c.args.acts.now
+          (may_at g.B.Printer tables c.args.known.now c.loop-act.known c.args.board.now c.loop-act.board c.args.acts.now
           c.loop-act.act-index _ c.loop-act-test.true may (c.loop-act.invariant.agrees tables may));
-      printed = text_more g.B.Board t k a b b' acts n _ c.loop-act-test.true i.printed c.in_ok-do_act.ensures.whole;
-      points = λ told tables may. points_more g.B.Board tables k a b b' acts n _ c.loop-act-test.true i.printed
+      printed = text_more g.B.Printer t k a b b' acts n _ c.loop-act-test.true i.printed c.in_ok-do_act.ensures.whole;
+      points = λ told tables may. points_more g.B.Printer tables k a b b' acts n _ c.loop-act-test.true i.printed
           c.args.known.now.durable c.loop-act.known.durable i.durable (i.points told tables may)
           (c.do_act.ensures.points told tables
-          (may_at g.B.Board tables c.args.known.now c.loop-act.known c.args.board.now c.loop-act.board c.args.acts.now
+          (may_at g.B.Printer tables c.args.known.now c.loop-act.known c.args.board.now c.loop-act.board c.args.acts.now
           c.loop-act.act-index _ c.loop-act-test.true may (c.loop-act.invariant.agrees tables may)));
-      beside = λ told. beside_then g.B.Board a b b' (i.beside told) (c.do_act.ensures.beside told);
-      faults = counts_more (g.B.Board.faults c.args.board.now) (g.B.Board.faults c.loop-act.board)
-          (g.B.Board.faults c.do_act.new.board) i.faults
+      beside = λ told. beside_then g.B.Printer a b b' (i.beside told) (c.do_act.ensures.beside told);
+      faults = counts_more (g.B.Printer.faults c.args.board.now) (g.B.Printer.faults c.loop-act.board)
+          (g.B.Printer.faults c.do_act.new.board) i.faults
           (c.in_ok-do_act.ensures.cause.kept true_is);
       steps = steps_more acts n _ c.args.steps.now c.loop-act.steps c.do_act.new.steps c.loop-act-test.true i.steps
           c.do_act.ensures.steps;
@@ -54,15 +54,15 @@ pub loop-act-init : goal.loop-act-init
 loop-act-init g c =
     let a = c.args.board.now in
     let k = c.args.known.now in
-    let now = g.met.B.Board.only_now a in
+    let now = g.met.B.Printer.only_now a in
     record {
       durable = refl;
       left = c.requires.acts;
       agrees = λ tables may. may.agrees;
-      printed = λ told. sym (append-nil (g.B.Board.printed a));
-      points = λ told tables may. keeps_still g.B.Board tables c.args.seal.now a k.place k.durable now
+      printed = λ told. sym (append-nil (g.B.Printer.printed a));
+      points = λ told tables may. keeps_still g.B.Printer tables c.args.seal.now a k.place k.durable now
           (may.agrees.settled told) may.agrees.fits;
-      beside = λ told. beside_none g.B.Board a now;
+      beside = λ told. beside_none g.B.Printer a now;
       faults = omega arith;
       steps = omega arith;
     }
@@ -74,14 +74,14 @@ returns-in_err-do_act-clause-points g c = λ told tables may.
     let acts = c.args.acts.now in
     let i = c.loop-act.invariant in
     let d = c.args.known.now.durable in
-    points_whole g.B.Board tables k c.args.board.now c.do_act.new.board d acts (n + 1)
-    (points_more g.B.Board tables k c.args.board.now c.loop-act.board c.do_act.new.board acts n _ c.loop-act-test.true
+    points_whole g.B.Printer tables k c.args.board.now c.do_act.new.board d acts (n + 1)
+    (points_more g.B.Printer tables k c.args.board.now c.loop-act.board c.do_act.new.board acts n _ c.loop-act-test.true
     i.printed d c.loop-act.known.durable i.durable (i.points told tables may) (c.do_act.ensures.points told tables
-    (may_at g.B.Board tables c.args.known.now c.loop-act.known c.args.board.now c.loop-act.board c.args.acts.now
+    (may_at g.B.Printer tables c.args.known.now c.loop-act.known c.args.board.now c.loop-act.board c.args.acts.now
     c.loop-act.act-index _ c.loop-act-test.true may (c.loop-act.invariant.agrees tables may))))
 
 pub returns-in_err-do_act-clause-beside : goal.returns-in_err-do_act-clause-beside
-returns-in_err-do_act-clause-beside g c = λ told. beside_then g.B.Board c.args.board.now c.loop-act.board
+returns-in_err-do_act-clause-beside g c = λ told. beside_then g.B.Printer c.args.board.now c.loop-act.board
     c.do_act.new.board (c.loop-act.invariant.beside told) (c.do_act.ensures.beside told)
 
 pub returns-in_err-do_act-clause-steps : goal.returns-in_err-do_act-clause-steps
@@ -90,7 +90,7 @@ returns-in_err-do_act-clause-steps g c = steps_whole c.args.acts.now c.loop-act.
 
 pub returns-clause-points : goal.returns-clause-points
 returns-clause-points g c =
-    λ told tables may. points_whole g.B.Board tables c.args.seal.now c.args.board.now c.loop-act.board
+    λ told tables may. points_whole g.B.Printer tables c.args.seal.now c.args.board.now c.loop-act.board
     c.args.known.now.durable c.args.acts.now c.loop-act.act-index (c.loop-act.invariant.points told tables may)
 
 pub returns-in_err-do_act-clause-durable : goal.returns-in_err-do_act-clause-durable
@@ -104,8 +104,8 @@ returns-in_err-do_act-clause-whole g c = λ told. not_ok _ c.from_residual.resul
 
 pub returns-in_err-do_act-clause-cause : goal.returns-in_err-do_act-clause-cause
 returns-in_err-do_act-clause-cause g c =
-    went_wrong (g.B.Board.faults c.args.board.now) (g.B.Board.faults c.loop-act.board)
-    (g.B.Board.faults c.do_act.new.board) _ c.from_residual.result c.from_residual.ensures.0
+    went_wrong (g.B.Printer.faults c.args.board.now) (g.B.Printer.faults c.loop-act.board)
+    (g.B.Printer.faults c.do_act.new.board) _ c.from_residual.result c.from_residual.ensures.0
     c.loop-act.invariant.faults c.in_err-do_act.ensures.cause
 
 pub returns-clause-durable : goal.returns-clause-durable
@@ -117,12 +117,12 @@ returns-clause-agrees g c = c.loop-act.invariant.agrees
 
 pub returns-clause-whole : goal.returns-clause-whole
 returns-clause-whole g c = λ told.
-    c.loop-act.invariant.printed told ∙ ap (λ (acts : List Act). g.B.Board.printed c.args.board.now
+    c.loop-act.invariant.printed told ∙ ap (λ (acts : List Act). g.B.Printer.printed c.args.board.now
     ++ texts c.args.seal.now (deeds_of acts)) (take_all c.loop-act.act-index c.args.acts.now c.loop-act-test.false)
 
 pub returns-clause-cause : goal.returns-clause-cause
 returns-clause-cause g c =
-    went_well (g.B.Board.faults c.args.board.now) (g.B.Board.faults c.loop-act.board) tt c.loop-act.invariant.faults
+    went_well (g.B.Printer.faults c.args.board.now) (g.B.Printer.faults c.loop-act.board) tt c.loop-act.invariant.faults
 
 pub returns-clause-beside : goal.returns-clause-beside
 returns-clause-beside g c = c.loop-act.invariant.beside

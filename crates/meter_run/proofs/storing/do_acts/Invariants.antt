@@ -8,13 +8,14 @@ abbrev pub invariant-loop-act : goal.invariant-loop-act
 invariant-loop-act g l = record {
   durable : l.known.durable ≡ after_acts l.fn.known.durable (take l.act-index l.acts);
   left : AreFor l.known.durable (drop l.act-index l.acts);
-  agrees : (tables : TableParts) → MayDo g.B.Board tables l.fn.known l.fn.board l.acts
-      → Agrees g.B.Board tables l.known l.board;
-  printed : g.B.Board.tells_text
-      → g.B.Board.printed l.board ≡ g.B.Board.printed l.fn.board ++ texts l.seal (deeds_of (take l.act-index l.acts));
-  points : g.B.Board.tells_image → (tables : TableParts) → MayDo g.B.Board tables l.fn.known l.fn.board l.acts
-      → GoesBy g.B.Board tables l.seal l.fn.board l.board l.fn.known.durable (deeds_of (take l.act-index l.acts));
-  beside : g.B.Board.tells_image → WritesTotals g.B.Board l.fn.board l.board;
-  faults : g.B.Board.faults l.board ≡ g.B.Board.faults l.fn.board;
+  agrees : (tables : TableParts) → MayDo g.B.Printer tables l.fn.known l.fn.board l.acts
+      → Agrees g.B.Printer tables l.known l.board;
+  printed : g.B.Printer.tells_text
+      → g.B.Printer.printed l.board ≡ g.B.Printer.printed l.fn.board ++ texts l.seal (deeds_of
+      (take l.act-index l.acts));
+  points : g.B.Printer.tells_image → (tables : TableParts) → MayDo g.B.Printer tables l.fn.known l.fn.board l.acts
+      → GoesBy g.B.Printer tables l.seal l.fn.board l.board l.fn.known.durable (deeds_of (take l.act-index l.acts));
+  beside : g.B.Printer.tells_image → WritesTotals g.B.Printer l.fn.board l.board;
+  faults : g.B.Printer.faults l.board ≡ g.B.Printer.faults l.fn.board;
   steps : l.steps ≤ l.fn.steps + l.act-index + 5 * commits_in (take l.act-index l.acts);
 }

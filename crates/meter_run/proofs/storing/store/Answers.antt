@@ -15,23 +15,23 @@ returns-in-Err-clause-agrees g c = λ tables fits. tt
 pub returns-in-Ok-clause-points : goal.returns-in-Ok-clause-points
 returns-in-Ok-clause-points g c = λ told tables seal deed fits fits_after is.
     let d = c.args.known.now.durable in
-    commit_point g.B.Board tables seal c.args.board.now c.commit.new.board d c.args.known.now.place
+    commit_point g.B.Printer tables seal c.args.board.now c.commit.new.board d c.args.known.now.place
     (after d c.args.change.now) deed is fits fits_after (c.commit.ensures.any_moment told) c.commit.ensures.beside.text
 
 pub returns-in-Ok-clause-beside : goal.returns-in-Ok-clause-beside
 returns-in-Ok-clause-beside g c = λ told.
     let d = c.args.known.now.durable in
-    beside_commit g.B.Board c.args.known.now.place d (after d c.args.change.now) c.args.board.now c.commit.new.board
+    beside_commit g.B.Printer c.args.known.now.place d (after d c.args.change.now) c.args.board.now c.commit.new.board
     c.requires.slot c.commit.ensures.beside (c.commit.ensures.any_moment told)
 
 pub returns-in-Err-clause-points : goal.returns-in-Err-clause-points
 returns-in-Err-clause-points g c = λ told tables seal deed fits fits_after is.
     let d = c.args.known.now.durable in
-    commit_point g.B.Board tables seal c.args.board.now c.commit.new.board d c.args.known.now.place
+    commit_point g.B.Printer tables seal c.args.board.now c.commit.new.board d c.args.known.now.place
     (after d c.args.change.now) deed is fits fits_after (c.commit.ensures.any_moment told) c.commit.ensures.beside.text
 
 pub returns-in-Err-clause-beside : goal.returns-in-Err-clause-beside
 returns-in-Err-clause-beside g c = λ told.
     let d = c.args.known.now.durable in
-    beside_commit g.B.Board c.args.known.now.place d (after d c.args.change.now) c.args.board.now c.commit.new.board
+    beside_commit g.B.Printer c.args.known.now.place d (after d c.args.change.now) c.args.board.now c.commit.new.board
     c.requires.slot c.commit.ensures.beside (c.commit.ensures.any_moment told)

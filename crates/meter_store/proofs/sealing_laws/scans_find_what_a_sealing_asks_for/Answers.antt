@@ -3,7 +3,7 @@ use Rattle.meter_store.proofs.sealing_laws.scans_find_what_a_sealing_asks_for.Go
 
 pub returns : goal.returns
 returns g c = record {
-  totals = totals_are_found g.B.Board;
-  seal = seal_is_found g.B.Board;
-  totals_stay = totals_stay_found g.B.Board;
+  totals = totals_are_found g.B.Printer;
+  seal = seal_is_found g.B.Printer;
+  totals_stay = totals_stay_found g.B.Printer;
 }

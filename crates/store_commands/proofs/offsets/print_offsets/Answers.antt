@@ -17,12 +17,12 @@ made_for rule years bounds items pairs same made are =
 pub returns-in-Err : goal.returns-in-Err
 returns-in-Err g c =
     let rest = g.F.Files.rest in
-    let printed = g.B.Board.printed c.args.board.now in
-    carries-kept g.F.Files g.B.Board (offsets_command c.args.years) c.args.files.now c.rules_of_word.new.files
+    let printed = g.B.Printer.printed c.args.board.now in
+    carries-kept g.F.Files g.B.Printer (offsets_command c.args.years) c.args.files.now c.rules_of_word.new.files
     c.args.board.now c.args.board.now c.args.steps.now c.args.steps.now _ (λ none. none) (λ status w. w)
     (λ tells. rw c.refused_rules.ensures
     (course-refused c.args.years (rest c.args.files.now) (rest c.rules_of_word.new.files)
-    (g.B.Board.image c.args.board.now) _ _ _ printed printed c.in-Err.fault refl
+    (g.B.Printer.image c.args.board.now) _ _ _ printed printed c.in-Err.fault refl
     (λ e. c.rules_of_word.ensures.read_fault (c.in-Err.is ∙ ap Err e))
     (λ why e. c.rules_of_word.ensures.refused why tells (c.in-Err.is ∙ ap Err e))))
     (λ later le. omega (arith, le))
@@ -37,13 +37,13 @@ returns-in-Err g c =
 pub returns-in-Ok-print_pairs : goal.returns-in-Ok-print_pairs
 returns-in-Ok-print_pairs g c =
     let rest = g.F.Files.rest in
-    let printed = g.B.Board.printed in
+    let printed = g.B.Printer.printed in
     let rule = c.in-Ok.rules in
-    carries-kept g.F.Files g.B.Board (offsets_command c.args.years) c.args.files.now c.rules_of_word.new.files
+    carries-kept g.F.Files g.B.Printer (offsets_command c.args.years) c.args.files.now c.rules_of_word.new.files
     c.args.board.now c.print_pairs.new.board c.args.steps.now c.print_pairs.new.steps ended.Done (λ none. none)
     (λ status w. w)
     (λ tells. course-lines c.args.years (rest c.args.files.now) (rest c.rules_of_word.new.files)
-    (g.B.Board.image c.args.board.now) _ _ _ (printed c.args.board.now) (printed c.print_pairs.new.board)
+    (g.B.Printer.image c.args.board.now) _ _ _ (printed c.args.board.now) (printed c.print_pairs.new.board)
     rule c.as_slice.result.now (c.in-Ok.ensures.found tells)
     (made_for rule _ c.bounds-first.result c.as_slice.result.now _ c.as_slice.ensures.value
     c.pairs-pairs.ensures.value c.bounds-first.ensures.value)
@@ -58,13 +58,13 @@ returns-in-Ok-print_pairs g c =
 pub returns-in-Err-print_pairs : goal.returns-in-Err-print_pairs
 returns-in-Err-print_pairs g c =
     let rest = g.F.Files.rest in
-    let printed = g.B.Board.printed in
+    let printed = g.B.Printer.printed in
     let rule = c.in-Ok.rules in
-    carries-kept g.F.Files g.B.Board (offsets_command c.args.years) c.args.files.now c.rules_of_word.new.files
+    carries-kept g.F.Files g.B.Printer (offsets_command c.args.years) c.args.files.now c.rules_of_word.new.files
     c.args.board.now c.print_pairs.new.board c.args.steps.now c.print_pairs.new.steps ended.BoardFault (λ none. none)
     (λ status w. w)
     (λ tells. course-lines_begun c.args.years (rest c.args.files.now) (rest c.rules_of_word.new.files)
-    (g.B.Board.image c.args.board.now) _ _ _ (printed c.args.board.now) (printed c.print_pairs.new.board)
+    (g.B.Printer.image c.args.board.now) _ _ _ (printed c.args.board.now) (printed c.print_pairs.new.board)
     rule c.as_slice.result.now (c.in-Ok.ensures.found tells)
     (made_for rule _ c.bounds-first.result c.as_slice.result.now _ c.as_slice.ensures.value
     c.pairs-pairs.ensures.value c.bounds-first.ensures.value)

@@ -5,9 +5,9 @@ use Rattle.store_commands.proofs.offsets.print_pairs.Given as goal
 -- the lines of the pairs so far were printed
 abbrev pub invariant-loop-pair : goal.invariant-loop-pair
 invariant-loop-pair g l = record {
-  printed : g.B.Board.tells_text
-      → g.B.Board.printed l.board ≡ g.B.Board.printed l.fn.board ++ offset_lines (take l.pair-index l.pairs);
-  faults : g.B.Board.faults l.board ≡ g.B.Board.faults l.fn.board;
-  store : KeepsStore g.B.Board l.fn.board l.board;
+  printed : g.B.Printer.tells_text
+      → g.B.Printer.printed l.board ≡ g.B.Printer.printed l.fn.board ++ offset_lines (take l.pair-index l.pairs);
+  faults : g.B.Printer.faults l.board ≡ g.B.Printer.faults l.fn.board;
+  store : KeepsStore g.B.Printer l.fn.board l.board;
   steps : l.steps ≤ l.fn.steps + l.pair-index;
 }

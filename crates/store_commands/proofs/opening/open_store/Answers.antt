@@ -15,7 +15,8 @@ returns-in-Err-clause-exact g c = λ tells good.
     λ e. good (ap Err
     (c.fault_of_pair.ensures ∙ ap (fault_from 0) (same_fault c.scan.result fault slots.DeviceFailed c.in-Err.is e))) in
     ap Err c.fault_of_pair.ensures
-    ∙ sym (opened_bad (g.B.Board.image c.args.board.now) fault (sym (c.scan.ensures.exact tells failed) ∙ c.in-Err.is))
+    ∙ sym (opened_bad (g.B.Printer.image c.args.board.now) fault (sym (c.scan.ensures.exact tells failed)
+    ∙ c.in-Err.is))
 
 pub returns-in-Err-clause-same : goal.returns-in-Err-clause-same
 returns-in-Err-clause-same g c = λ good.
@@ -29,7 +30,7 @@ returns-in-Err-clause-cause g c = λ e.
 
 pub returns-in-Err-scan-clause-exact : goal.returns-in-Err-scan-clause-exact
 returns-in-Err-scan-clause-exact g c = λ tells good.
-    let image = g.B.Board.image in
+    let image = g.B.Printer.image in
     let fault = c.in-Err-scan.fault in
     let failed : ¬ (c.scan-2.result ≡ Err slots.DeviceFailed) =
     λ e. good (ap Err (c.fault_of_pair-in-Err-scan.ensures
@@ -48,7 +49,7 @@ returns-in-Err-scan-clause-reads g c =
     no_fault c.scan.result c.in-Ok.found slots.DeviceFailed c.in-Ok.is in
     let first = c.scan.ensures in
     let next = c.scan-2.ensures in
-    reads-then g.B.Board c.args.board.now c.scan.new.board c.scan-2.new.board
+    reads-then g.B.Printer c.args.board.now c.scan.new.board c.scan-2.new.board
     first.reads (first.synced.same went)
     next.reads
 
@@ -71,7 +72,7 @@ returns-in-Err-scan-clause-cause g c = λ e.
 
 pub returns-clause-exact : goal.returns-clause-exact
 returns-clause-exact g c = λ tells good.
-    let image = g.B.Board.image in
+    let image = g.B.Printer.image in
     let went : ¬ (c.scan.result ≡ Err slots.DeviceFailed) =
     no_fault c.scan.result c.in-Ok.found slots.DeviceFailed c.in-Ok.is in
     let went_on : ¬ (c.scan-2.result ≡ Err slots.DeviceFailed) =
@@ -86,9 +87,9 @@ returns-clause-opened g c = λ tells.
     let went_on : ¬ (c.scan-2.result ≡ Err slots.DeviceFailed) =
     no_fault c.scan-2.result c.in-Ok-scan.found slots.DeviceFailed c.in-Ok-scan.is in
     record {
-      totals = stays_found totals.reads states.state_number_of 0 (g.B.Board.image c.scan.new.board)
-          (g.B.Board.image c.scan-2.new.board) (g.B.Board.in_flight c.scan.new.board)
-          (g.B.Board.in_flight c.scan-2.new.board)
+      totals = stays_found totals.reads states.state_number_of 0 (g.B.Printer.image c.scan.new.board)
+          (g.B.Printer.image c.scan-2.new.board) (g.B.Printer.in_flight c.scan.new.board)
+          (g.B.Printer.in_flight c.scan-2.new.board)
           c.in-Ok.found (c.scan-2.ensures.synced.same went_on) c.scan-2.ensures.reads.flight
           (c.in-Ok.ensures.settled tells);
       seal = c.in-Ok-scan.ensures.settled tells;
@@ -100,7 +101,7 @@ returns-clause-reads g c =
     no_fault c.scan.result c.in-Ok.found slots.DeviceFailed c.in-Ok.is in
     let first = c.scan.ensures in
     let next = c.scan-2.ensures in
-    reads-then g.B.Board c.args.board.now c.scan.new.board c.scan-2.new.board
+    reads-then g.B.Printer c.args.board.now c.scan.new.board c.scan-2.new.board
     first.reads (first.synced.same went)
     next.reads
 
@@ -108,8 +109,8 @@ returns-clause-reads g c =
 
 pub returns-in-Err-clause-synced : goal.returns-in-Err-clause-synced
 returns-in-Err-clause-synced g c = λ tells.
-    let held = IsAsHeld g.B.Board c.args.board.now in
-    from_sync_as g.B.Board held held (c.scan.result ≡ Err slots.DeviceFailed) _ c.args.board.now c.scan.new.board
+    let held = IsAsHeld g.B.Printer c.args.board.now in
+    from_sync_as g.B.Printer held held (c.scan.result ≡ Err slots.DeviceFailed) _ c.args.board.now c.scan.new.board
     (λ e. ap Err (c.fault_of_pair.ensures
     ∙ ap (fault_from 0) (same_fault c.scan.result c.in-Err.fault slots.DeviceFailed c.in-Err.is e)))
     (λ i x is. is) (c.scan.ensures.synced.leaves tells)
@@ -123,7 +124,7 @@ pub returns-in-Err-scan-clause-synced : goal.returns-in-Err-scan-clause-synced
 returns-in-Err-scan-clause-synced g c = λ tells.
     let first = c.scan.ensures in
     let went = no_fault c.scan.result c.in-Ok.found slots.DeviceFailed c.in-Ok.is in
-    synced-on g.B.Board c.args.board.now c.scan.new.board c.scan-2.new.board first.reads (first.synced.same went)
+    synced-on g.B.Printer c.args.board.now c.scan.new.board c.scan-2.new.board first.reads (first.synced.same went)
     (c.scan.result ≡ Err slots.DeviceFailed) _ went (first.synced.settled tells went)
     (first.synced.leaves tells) c.scan-2.ensures.reads.leaves
 
@@ -136,7 +137,7 @@ pub returns-clause-synced : goal.returns-clause-synced
 returns-clause-synced g c = λ tells.
     let first = c.scan.ensures in
     let went = no_fault c.scan.result c.in-Ok.found slots.DeviceFailed c.in-Ok.is in
-    synced-on g.B.Board c.args.board.now c.scan.new.board c.scan-2.new.board first.reads (first.synced.same went)
+    synced-on g.B.Printer c.args.board.now c.scan.new.board c.scan-2.new.board first.reads (first.synced.same went)
     (c.scan.result ≡ Err slots.DeviceFailed) _ went (first.synced.settled tells went)
     (first.synced.leaves tells) c.scan-2.ensures.reads.leaves
 

@@ -10,11 +10,11 @@ use Rattle.store_commands.proofs.port.serve_requests.Goals as goal
 -- there is no sealed store
 pub returns-in-Err : goal.returns-in-Err
 returns-in-Err g c =
-    carries-looked g.F.Files g.B.Board port_command c.args.files.now c.args.files.now c.args.board.now
+    carries-looked g.F.Files g.B.Printer port_command c.args.files.now c.args.files.now c.args.board.now
     c.open_sealed.new.board c.args.steps.now c.open_sealed.new.steps c.in-Err.why tt (λ status w. w)
     (λ known.
     let rest = g.F.Files.rest c.args.files.now in
-    ends-barred g.B.Board port_command rest rest _ c.args.board.now c.open_sealed.new.board
+    ends-barred g.B.Printer port_command rest rest _ c.args.board.now c.open_sealed.new.board
     (λ (r : Result (Durable × Seal) Ended). port_answer r (rest 1)) refl (record { bytes = refl })
     c.open_sealed.result (c.open_sealed.ensures.exact known.1) c.open_sealed.ensures.opens (λ e. absurd cc)
     (λ e. absurd cc) c.in-Err.why c.in-Err.is c.in-Err.ensures.barred refl)
@@ -31,22 +31,22 @@ returns-in-Err g c =
 -- the requests are served
 pub returns : goal.returns
 returns g c =
-    carries-looked g.F.Files g.B.Board port_command c.args.files.now c.serve-served.new.files c.args.board.now
+    carries-looked g.F.Files g.B.Printer port_command c.args.files.now c.serve-served.new.files c.args.board.now
     c.serve-served.new.board c.args.steps.now c.serve-served.new.steps
     c.ended_of_serving.result tt (λ status w. w)
     (λ known.
     let rest = g.F.Files.rest in
-    let image = g.B.Board.image c.args.board.now in
-    let printed = g.B.Board.printed in
+    let image = g.B.Printer.image c.args.board.now in
+    let printed = g.B.Printer.printed in
     let opened = c.open_sealed.ensures in
     let store = c.in-Ok.store in
     let served = c.serve-served in
-    let serves = subst (λ (p : List ℕ). Serves g.B.Board.tells_text store.0 store.1 (rest c.args.files.now 1)
+    let serves = subst (λ (p : List ℕ). Serves g.B.Printer.tells_text store.0 store.1 (rest c.args.files.now 1)
     (rest served.new.files 1) p (printed served.new.board) served.result)
     opened.opens.reads.text (served.ensures.serves known.0) in
-    subst (λ (end : Ended). EndsOnDevices g.F.Files g.B.Board port_command c.args.files.now served.new.files
+    subst (λ (end : Ended). EndsOnDevices g.F.Files g.B.Printer port_command c.args.files.now served.new.files
     c.args.board.now served.new.board end) (sym c.ended_of_serving.ensures)
-    (course-served (rest c.args.files.now) (rest served.new.files) image _ _ g.B.Board.tells_text
+    (course-served (rest c.args.files.now) (rest served.new.files) image _ _ g.B.Printer.tells_text
     (printed c.args.board.now) (printed served.new.board) store.0 store.1
     (as_found c.open_sealed.result _ store ended.BoardFault c.in-Ok.is (opened.exact known.1)) served.result serves
     served.ensures.read_fault
@@ -93,7 +93,7 @@ returns g c =
     )))
     (λ read good word. (c.serve-served.ensures.counts word).kept
     (λ f. read (c.ended_of_serving.ensures ∙ ap ended_serving f)))
-    (unwritten-behind g.B.Board _ c.ended_of_serving.result c.args.board.now c.open_sealed.new.board
+    (unwritten-behind g.B.Printer _ c.ended_of_serving.result c.args.board.now c.open_sealed.new.board
     c.serve-served.new.board
     (no_fault c.open_sealed.result c.in-Ok.store ended.BoardFault c.in-Ok.is) c.open_sealed.ensures.opens
-    (g.met.B.Board.only_now c.open_sealed.new.board) c.serve-served.ensures.store)
+    (g.met.B.Printer.only_now c.open_sealed.new.board) c.serve-served.ensures.store)

@@ -20,12 +20,12 @@ pub returns-in-Err-clause-carries : goal.returns-in-Err-clause-carries
 returns-in-Err-clause-carries g c = record {
   ends = λ known. let read = known.0 in let tells = known.1 in
       let rest = g.F.Files.rest c.args.files.now in
-      let image = g.B.Board.image c.args.board.now in
-      let printed = g.B.Board.printed in
+      let image = g.B.Printer.image c.args.board.now in
+      let printed = g.B.Printer.printed in
       let fault = c.in-Err.fault in
-      subst (λ (end : Ended). EndsOnDevices g.F.Files g.B.Board seal_command c.args.files.now c.args.files.now
+      subst (λ (end : Ended). EndsOnDevices g.F.Files g.B.Printer seal_command c.args.files.now c.args.files.now
       c.args.board.now c.open_store.new.board end) (sym c.refused_store.ensures)
-      (comes-barred_by_store seal_command rest rest image _ _ g.B.Board.tells_text (printed c.args.board.now)
+      (comes-barred_by_store seal_command rest rest image _ _ g.B.Printer.tells_text (printed c.args.board.now)
       (printed c.open_store.new.board) refl c.open_store.ensures.reads.text
       (λ e. absurd cc) (λ e. absurd cc) (store_ended fault) (inr (fault, refl))
       (λ good. ap (λ r. seal_answer (sealing_of r (rest 1) (rest 2)))
@@ -42,7 +42,7 @@ returns-in-Err-clause-carries g c = record {
       ∙ ap store_ended (same_fault c.open_store.result c.in-Err.fault stores.BoardFault c.in-Err.is e)));
   counts = λ read good word. refl;
   kept = λ shut. absurd (shut tt);
-  unwritten = λ not. bytes-read g.B.Board c.args.board.now c.open_store.new.board c.open_store.ensures.reads;
+  unwritten = λ not. bytes-read g.B.Printer c.args.board.now c.open_store.new.board c.open_store.ensures.reads;
   same = λ not good. c.open_store.ensures.same (λ e. good (c.refused_store.ensures
       ∙ ap store_ended (same_fault c.open_store.result c.in-Err.fault stores.BoardFault c.in-Err.is e)));
   fails = λ status w. inr refl;
@@ -56,7 +56,7 @@ pub returns-in-Err-clause-comes : goal.returns-in-Err-clause-comes
 returns-in-Err-clause-comes g c = λ read tells. record {
   seals = let rest = g.F.Files.rest c.args.files.now in
       let fault = c.in-Err.fault in
-      seals-read g.B.Board (rest 1) (rest 2)
+      seals-read g.B.Printer (rest 1) (rest 2)
       (c.open_store.result ≡ Err stores.BoardFault) c.args.board.now c.open_store.new.board _
       (λ z. not_0-store fault (ap status_of (sym c.refused_store.ensures) ∙ z))
       (λ e. ap status_of
@@ -65,10 +65,10 @@ returns-in-Err-clause-comes g c = λ read tells. record {
   rests = λ good. let rest = g.F.Files.rest c.args.files.now in
       let went : ¬ (c.open_store.result ≡ Err stores.BoardFault) = λ e. good (c.refused_store.ensures
       ∙ ap store_ended (same_fault c.open_store.result c.in-Err.fault stores.BoardFault c.in-Err.is e)) in
-      rests-refused g.B.Board _ (store_ended c.in-Err.fault) (g.B.Board.image c.args.board.now)
-      (g.B.Board.printed c.args.board.now) (line_of c.refused_store.result) c.open_store.new.board
+      rests-refused g.B.Printer _ (store_ended c.in-Err.fault) (g.B.Printer.image c.args.board.now)
+      (g.B.Printer.printed c.args.board.now) (line_of c.refused_store.result) c.open_store.new.board
       (ap (λ r. sealing_of r (rest 1) (rest 2)) (as_refused c.open_store.result
-      (opening_in (g.B.Board.image c.args.board.now)) c.in-Err.fault stores.BoardFault c.in-Err.is
+      (opening_in (g.B.Printer.image c.args.board.now)) c.in-Err.fault stores.BoardFault c.in-Err.is
       (λ e. good (c.refused_store.ensures ∙ ap store_ended e)) (c.open_store.ensures.exact tells)))
       (c.open_store.ensures.same went) (c.open_store.ensures.settled tells went);
 }
@@ -79,11 +79,11 @@ pub returns-in-Err-base_of-clause-carries : goal.returns-in-Err-base_of-clause-c
 returns-in-Err-base_of-clause-carries g c = record {
   ends = λ known. let read = known.0 in let tells = known.1 in
       let rest = g.F.Files.rest c.args.files.now in
-      let image = g.B.Board.image c.args.board.now in
+      let image = g.B.Printer.image c.args.board.now in
       let opened = as_found c.open_store.result (opening_in image) c.in-Ok.opening stores.BoardFault c.in-Ok.is
       (c.open_store.ensures.exact tells) in
-      course-barred rest rest image _ _ g.B.Board.tells_text (g.B.Board.printed c.args.board.now)
-      (g.B.Board.printed c.open_store.new.board) c.open_store.ensures.reads.text c.in-Err-base_of.ended
+      course-barred rest rest image _ _ g.B.Printer.tells_text (g.B.Printer.printed c.args.board.now)
+      (g.B.Printer.printed c.open_store.new.board) c.open_store.ensures.reads.text c.in-Err-base_of.ended
       (sealing-barred (opening_in image) c.in-Ok.opening c.base_of.result c.in-Err-base_of.ended (rest 1) (rest 2)
       opened c.in-Err-base_of.is c.base_of.ensures.answer)
       (c.base_of.ensures.refused c.in-Err-base_of.ended c.in-Err-base_of.is);
@@ -100,7 +100,7 @@ returns-in-Err-base_of-clause-carries g c = record {
       c.in-Ok.is);
   counts = λ read good word. refl;
   kept = λ shut. absurd (shut tt);
-  unwritten = λ not. bytes-read g.B.Board c.args.board.now c.open_store.new.board c.open_store.ensures.reads;
+  unwritten = λ not. bytes-read g.B.Printer c.args.board.now c.open_store.new.board c.open_store.ensures.reads;
   same =
       λ not good. c.open_store.ensures.same (no_fault c.open_store.result c.in-Ok.opening stores.BoardFault c.in-Ok.is);
   fails = λ status w. inr refl;
@@ -112,7 +112,7 @@ returns-in-Err-base_of-clause-carries g c = record {
 pub returns-in-Err-base_of-clause-comes : goal.returns-in-Err-base_of-clause-comes
 returns-in-Err-base_of-clause-comes g c = λ read tells. record {
   seals = let rest = g.F.Files.rest c.args.files.now in
-      seals-read g.B.Board (rest 1) (rest 2)
+      seals-read g.B.Printer (rest 1) (rest 2)
       (c.open_store.result ≡ Err stores.BoardFault) c.args.board.now c.open_store.new.board _
       (not_0-barred c.in-Err-base_of.ended (c.base_of.ensures.refused c.in-Err-base_of.ended c.in-Err-base_of.is))
       (λ e. absurd (no_fault c.open_store.result c.in-Ok.opening stores.BoardFault c.in-Ok.is e))
@@ -120,8 +120,8 @@ returns-in-Err-base_of-clause-comes g c = λ read tells. record {
   rests = λ good. let rest = g.F.Files.rest c.args.files.now in
       let went : ¬ (c.open_store.result ≡ Err stores.BoardFault) =
       no_fault c.open_store.result c.in-Ok.opening stores.BoardFault c.in-Ok.is in
-      let image = g.B.Board.image c.args.board.now in
-      rests-refused g.B.Board _ c.in-Err-base_of.ended image (g.B.Board.printed c.args.board.now)
+      let image = g.B.Printer.image c.args.board.now in
+      rests-refused g.B.Printer _ c.in-Err-base_of.ended image (g.B.Printer.printed c.args.board.now)
       (line_of c.in-Err-base_of.ended) c.open_store.new.board
       (sealing-barred (opening_in image) c.in-Ok.opening c.base_of.result c.in-Err-base_of.ended (rest 1) (rest 2)
       (as_found c.open_store.result (opening_in image) c.in-Ok.opening stores.BoardFault c.in-Ok.is
@@ -137,13 +137,13 @@ returns-in-Err-read_seal-clause-carries g c = record {
   ends = λ known. let read = known.0 in let tells = known.1 in
       let rest = g.F.Files.rest in
       let faults = g.F.Files.faults in
-      let image = g.B.Board.image c.args.board.now in
+      let image = g.B.Printer.image c.args.board.now in
       let base = c.in-Ok-base_of.base in
       let end = c.in-Err-read_seal.ended in
       course-no_seal (rest c.args.files.now) (rest c.read_seal.new.files) image
       (λ word. Rose (faults c.args.files.now word) (faults c.read_seal.new.files word)) _
-      g.B.Board.tells_text (g.B.Board.printed c.args.board.now)
-      (g.B.Board.printed c.open_store.new.board) c.open_store.ensures.reads.text c.in-Ok.opening c.base_of.result base
+      g.B.Printer.tells_text (g.B.Printer.printed c.args.board.now)
+      (g.B.Printer.printed c.open_store.new.board) c.open_store.ensures.reads.text c.in-Ok.opening c.base_of.result base
       end (as_found c.open_store.result (opening_in image) c.in-Ok.opening stores.BoardFault c.in-Ok.is
       (c.open_store.ensures.exact tells)) c.in-Ok-base_of.is c.base_of.ensures.answer
       (subst (λ (n : ℕ). IsNoSeal n base.decimals (rest c.args.files.now 1) (rest c.args.files.now 2)
@@ -164,8 +164,8 @@ returns-in-Err-read_seal-clause-carries g c = record {
   others = λ word not. c.read_seal.ensures.reads.others word (λ e. not (inl e)) (λ e. not (inr e));
   unread =
       λ known. unread-sealing (g.F.Files.rest c.args.files.now) (g.F.Files.rest c.read_seal.new.files)
-      (g.B.Board.image c.args.board.now) c.in-Ok.opening c.base_of.result c.in-Ok-base_of.base
-      (as_found c.open_store.result (opening_in (g.B.Board.image c.args.board.now)) c.in-Ok.opening stores.BoardFault
+      (g.B.Printer.image c.args.board.now) c.in-Ok.opening c.base_of.result c.in-Ok-base_of.base
+      (as_found c.open_store.result (opening_in (g.B.Printer.image c.args.board.now)) c.in-Ok.opening stores.BoardFault
       c.in-Ok.is (c.open_store.ensures.exact known.1))
       c.in-Ok-base_of.is c.base_of.ensures.answer (c.read_seal.ensures.reads.unread known.0);
   count = λ good. c.open_store.ensures.count (no_fault c.open_store.result c.in-Ok.opening stores.BoardFault
@@ -173,7 +173,7 @@ returns-in-Err-read_seal-clause-carries g c = record {
   counts = λ read good. c.read_seal.ensures.reads.counts (λ e. read
       (same_fault c.read_seal.result _ _ c.in-Err-read_seal.is e));
   kept = λ shut. absurd (shut tt);
-  unwritten = λ not. bytes-read g.B.Board c.args.board.now c.open_store.new.board c.open_store.ensures.reads;
+  unwritten = λ not. bytes-read g.B.Printer c.args.board.now c.open_store.new.board c.open_store.ensures.reads;
   same =
       λ not good. c.open_store.ensures.same (no_fault c.open_store.result c.in-Ok.opening stores.BoardFault c.in-Ok.is);
   fails = λ status w. inr refl;
@@ -187,7 +187,7 @@ returns-in-Err-read_seal-clause-comes g c = λ read tells. record {
   seals = let rest = g.F.Files.rest c.args.files.now in
       let faults = g.F.Files.faults in
       let end = c.in-Err-read_seal.ended in
-      seals-read g.B.Board (rest 1) (rest 2)
+      seals-read g.B.Printer (rest 1) (rest 2)
       (c.open_store.result ≡ Err stores.BoardFault) c.args.board.now c.open_store.new.board _
       (not_0-no_seal _ c.in-Ok-base_of.base.decimals (rest 1) (rest 2)
       (λ word. Rose (faults c.args.files.now word) (faults c.read_seal.new.files word)) end
@@ -198,10 +198,10 @@ returns-in-Err-read_seal-clause-comes g c = λ read tells. record {
       let went : ¬ (c.open_store.result ≡ Err stores.BoardFault) =
       no_fault c.open_store.result c.in-Ok.opening stores.BoardFault c.in-Ok.is in
       let faults = g.F.Files.faults in
-      let image = g.B.Board.image c.args.board.now in
+      let image = g.B.Printer.image c.args.board.now in
       let base = c.in-Ok-base_of.base in
       let end = c.in-Err-read_seal.ended in
-      rests-no_seal g.B.Board (rest 1) (rest 2) image (g.B.Board.printed c.args.board.now) c.in-Ok.opening
+      rests-no_seal g.B.Printer (rest 1) (rest 2) image (g.B.Printer.printed c.args.board.now) c.in-Ok.opening
       c.base_of.result base
       (λ word. Rose (faults c.args.files.now word) (faults c.read_seal.new.files word)) c.open_store.new.board
       (as_found c.open_store.result (opening_in image) c.in-Ok.opening stores.BoardFault c.in-Ok.is
@@ -216,13 +216,14 @@ returns-in-Err-read_seal-clause-comes g c = λ read tells. record {
 
 pub place_seal-requires-clause-totals : goal.place_seal-requires-clause-totals
 place_seal-requires-clause-totals g c = λ tells.
-    subst (λ (t : Option Durable). FoundTotals g.B.Board c.open_store.new.board t) (sym c.in-Ok-base_of.ensures.totals)
-    (totals_are_found g.B.Board c.open_store.new.board c.in-Ok.opening.totals (c.in-Ok.ensures.opened tells).totals)
+    subst (λ (t : Option Durable). FoundTotals g.B.Printer c.open_store.new.board t)
+    (sym c.in-Ok-base_of.ensures.totals)
+    (totals_are_found g.B.Printer c.open_store.new.board c.in-Ok.opening.totals (c.in-Ok.ensures.opened tells).totals)
 
 pub place_seal-requires-clause-found : goal.place_seal-requires-clause-found
 place_seal-requires-clause-found g c = λ tells. (
   old_seal c.in-Ok.opening.seal,
-  found-as g.B.Board c.open_store.new.board c.in-Ok.opening.seal c.in-Ok-base_of.base.found
+  found-as g.B.Printer c.open_store.new.board c.in-Ok.opening.seal c.in-Ok-base_of.base.found
       c.in-Ok-base_of.ensures.found (c.in-Ok.ensures.opened tells).seal,
 )
 
@@ -231,10 +232,10 @@ returns-in-Ok-place_seal-clause-carries g c = record {
   ends = λ known. let read = known.0 in let tells = known.1 in
       let rest = g.F.Files.rest c.args.files.now in
       course-sealed rest (g.F.Files.rest c.read_seal.new.files)
-      (g.B.Board.image c.args.board.now) _ _ g.B.Board.tells_text
-      (g.B.Board.printed c.args.board.now) (g.B.Board.printed c.place_seal.new.board)
+      (g.B.Printer.image c.args.board.now) _ _ g.B.Printer.tells_text
+      (g.B.Printer.printed c.args.board.now) (g.B.Printer.printed c.place_seal.new.board)
       (c.place_seal.ensures.beside.text ∙ c.open_store.ensures.reads.text) _ c.number_after-number.result
-      (sealing-made (g.B.Board.image c.args.board.now) (rest 1) (rest 2) _ _ _ _ _ _ c.in-Ok.is
+      (sealing-made (g.B.Printer.image c.args.board.now) (rest 1) (rest 2) _ _ _ _ _ _ c.in-Ok.is
       (c.open_store.ensures.exact tells) c.in-Ok-base_of.is c.base_of.ensures.answer
       c.number_after-number.ensures.value (c.in-Ok-read_seal.ensures.read read))
       c.in-Ok-read_seal.ensures.number (c.in-Ok-read_seal.ensures.tariff_ended read)
@@ -245,8 +246,8 @@ returns-in-Ok-place_seal-clause-carries g c = record {
   others = λ word not. c.read_seal.ensures.reads.others word (λ e. not (inl e)) (λ e. not (inr e));
   unread =
       λ known. unread-sealing (g.F.Files.rest c.args.files.now) (g.F.Files.rest c.read_seal.new.files)
-      (g.B.Board.image c.args.board.now) c.in-Ok.opening c.base_of.result c.in-Ok-base_of.base
-      (as_found c.open_store.result (opening_in (g.B.Board.image c.args.board.now)) c.in-Ok.opening stores.BoardFault
+      (g.B.Printer.image c.args.board.now) c.in-Ok.opening c.base_of.result c.in-Ok-base_of.base
+      (as_found c.open_store.result (opening_in (g.B.Printer.image c.args.board.now)) c.in-Ok.opening stores.BoardFault
       c.in-Ok.is (c.open_store.ensures.exact known.1))
       c.in-Ok-base_of.is c.base_of.ensures.answer (c.read_seal.ensures.reads.unread known.0);
   count = λ good. c.in-Ok-place_seal.ensures.cause.kept refl ∙ c.open_store.ensures.count
@@ -257,7 +258,7 @@ returns-in-Ok-place_seal-clause-carries g c = record {
   same = λ not good. absurd (not (inl refl));
   fails = λ status w. inr refl;
   at_rest =
-      λ known told opened good. settled-sealed g.B.Board c.in-Ok-base_of.base.totals _ c.open_store.new.board
+      λ known told opened good. settled-sealed g.B.Printer c.in-Ok-base_of.base.totals _ c.open_store.new.board
       c.place_seal.new.board
       (c.open_store.ensures.settled told (no_fault c.open_store.result c.in-Ok.opening stores.BoardFault c.in-Ok.is))
       c.place_seal.ensures.beside (c.in-Ok-place_seal.ensures.sealed told);
@@ -267,7 +268,8 @@ returns-in-Ok-place_seal-clause-carries g c = record {
 pub returns-in-Ok-place_seal-clause-comes : goal.returns-in-Ok-place_seal-clause-comes
 returns-in-Ok-place_seal-clause-comes g c = λ read tells. record {
   seals = let rest = g.F.Files.rest c.args.files.now in
-      seals-over g.B.Board (rest 1) (rest 2) _ _ _ _ _ _ c.args.board.now c.open_store.new.board c.place_seal.new.board
+      seals-over g.B.Printer (rest 1) (rest 2) _ _ _ _ _ _ c.args.board.now c.open_store.new.board
+      c.place_seal.new.board
       _ c.in-Ok.is (c.open_store.ensures.exact tells) c.in-Ok-base_of.is c.base_of.ensures.answer
       c.number_after-number.ensures.value (c.in-Ok-read_seal.ensures.read read) c.in-Ok-base_of.ensures.found
       (c.in-Ok.ensures.opened tells).seal
@@ -275,15 +277,15 @@ returns-in-Ok-place_seal-clause-comes g c = λ read tells. record {
       (c.place_seal.ensures.any_moment tells)
       (λ z. let went : ¬ (c.open_store.result ≡ Err stores.BoardFault) =
       no_fault c.open_store.result c.in-Ok.opening stores.BoardFault c.in-Ok.is in (
-        is_sealed g.B.Board _ c.place_seal.new.board (c.in-Ok-place_seal.ensures.sealed tells),
-        stays_beside g.B.Board c.in-Ok-base_of.base.totals c.args.board.now c.open_store.new.board
+        is_sealed g.B.Printer _ c.place_seal.new.board (c.in-Ok-place_seal.ensures.sealed tells),
+        stays_beside g.B.Printer c.in-Ok-base_of.base.totals c.args.board.now c.open_store.new.board
             c.place_seal.new.board (c.open_store.ensures.same went) (c.open_store.ensures.settled tells went)
             c.place_seal.ensures.beside,
       ));
   rests = λ good. let rest = g.F.Files.rest c.args.files.now in
-      rests-placed g.B.Board _ _ (g.B.Board.image c.args.board.now) (g.B.Board.printed c.args.board.now)
+      rests-placed g.B.Printer _ _ (g.B.Printer.image c.args.board.now) (g.B.Printer.printed c.args.board.now)
       (line_of (ended.Sealed c.number_after-number.result)) c.place_seal.new.board
-      (sealing-made (g.B.Board.image c.args.board.now) (rest 1) (rest 2) _ _ _ _ _ _ c.in-Ok.is
+      (sealing-made (g.B.Printer.image c.args.board.now) (rest 1) (rest 2) _ _ _ _ _ _ c.in-Ok.is
       (c.open_store.ensures.exact tells) c.in-Ok-base_of.is c.base_of.ensures.answer
       c.number_after-number.ensures.value (c.in-Ok-read_seal.ensures.read read))
       (c.in-Ok-place_seal.ensures.sealed tells);
@@ -293,9 +295,9 @@ pub returns-in-Err-place_seal-clause-carries : goal.returns-in-Err-place_seal-cl
 returns-in-Err-place_seal-clause-carries g c = record {
   ends = λ known. let read = known.0 in let tells = known.1 in
       let rest = g.F.Files.rest in
-      let image = g.B.Board.image c.args.board.now in
-      let printed = g.B.Board.printed in
-      course-board seal_command (rest c.args.files.now) (rest c.read_seal.new.files) image _ _ g.B.Board.tells_text
+      let image = g.B.Printer.image c.args.board.now in
+      let printed = g.B.Printer.printed in
+      course-board seal_command (rest c.args.files.now) (rest c.read_seal.new.files) image _ _ g.B.Printer.tells_text
       (printed c.args.board.now) (printed c.place_seal.new.board) refl
       (c.place_seal.ensures.beside.text ∙ c.open_store.ensures.reads.text)
       (omega (
@@ -316,8 +318,8 @@ returns-in-Err-place_seal-clause-carries g c = record {
   others = λ word not. c.read_seal.ensures.reads.others word (λ e. not (inl e)) (λ e. not (inr e));
   unread =
       λ known. unread-sealing (g.F.Files.rest c.args.files.now) (g.F.Files.rest c.read_seal.new.files)
-      (g.B.Board.image c.args.board.now) c.in-Ok.opening c.base_of.result c.in-Ok-base_of.base
-      (as_found c.open_store.result (opening_in (g.B.Board.image c.args.board.now)) c.in-Ok.opening stores.BoardFault
+      (g.B.Printer.image c.args.board.now) c.in-Ok.opening c.base_of.result c.in-Ok-base_of.base
+      (as_found c.open_store.result (opening_in (g.B.Printer.image c.args.board.now)) c.in-Ok.opening stores.BoardFault
       c.in-Ok.is (c.open_store.ensures.exact known.1))
       c.in-Ok-base_of.is c.base_of.ensures.answer (c.read_seal.ensures.reads.unread known.0);
   count = λ good. absurd (good refl);
@@ -333,7 +335,8 @@ returns-in-Err-place_seal-clause-carries g c = record {
 pub returns-in-Err-place_seal-clause-comes : goal.returns-in-Err-place_seal-clause-comes
 returns-in-Err-place_seal-clause-comes g c = λ read tells. record {
   seals = let rest = g.F.Files.rest c.args.files.now in
-      seals-over g.B.Board (rest 1) (rest 2) _ _ _ _ _ _ c.args.board.now c.open_store.new.board c.place_seal.new.board
+      seals-over g.B.Printer (rest 1) (rest 2) _ _ _ _ _ _ c.args.board.now c.open_store.new.board
+      c.place_seal.new.board
       _ c.in-Ok.is (c.open_store.ensures.exact tells) c.in-Ok-base_of.is c.base_of.ensures.answer
       c.number_after-number.ensures.value (c.in-Ok-read_seal.ensures.read read) c.in-Ok-base_of.ensures.found
       (c.in-Ok.ensures.opened tells).seal

@@ -35,7 +35,7 @@ returns-in-Err-clause-cause g c = record {
 pub returns-in-Err-clause-looks : goal.returns-in-Err-clause-looks
 returns-in-Err-clause-looks g c =
     let h = c.open_store.ensures in
-    unwritten-opened g.B.Board
+    unwritten-opened g.B.Printer
     (c.open_store.result ≡ Err stores.BoardFault) c.refused_store.result c.args.board.now c.open_store.new.board
     (λ f. c.refused_store.ensures
     ∙ ap store_ended (same_fault c.open_store.result c.in-Err.fault stores.BoardFault c.in-Err.is f))
@@ -51,7 +51,7 @@ returns-in-Err-clause-looks g c =
 pub returns-in-Err-clause-opens : goal.returns-in-Err-clause-opens
 returns-in-Err-clause-opens g c =
     let h = c.open_store.ensures in
-    opens-as g.B.Board _ _ c.args.board.now c.open_store.new.board
+    opens-as g.B.Printer _ _ c.args.board.now c.open_store.new.board
     (λ f. ap Err (c.refused_store.ensures
     ∙ ap store_ended (same_fault c.open_store.result c.in-Err.fault stores.BoardFault c.in-Err.is f)))
     (λ e. c.in-Err.is
@@ -70,7 +70,7 @@ returns-in-Err-clause-opens g c =
 pub returns-in-Some-clause-exact : goal.returns-in-Some-clause-exact
 returns-in-Some-clause-exact g c = λ told good.
     let went = no_fault c.open_store.result c.in-Ok.opening stores.BoardFault c.in-Ok.is in
-    sym (store_opened (g.B.Board.image c.args.board.now) c.in-Ok.opening (Some (c.in-Some.durable, c.in-Some.seal))
+    sym (store_opened (g.B.Printer.image c.args.board.now) c.in-Ok.opening (Some (c.in-Some.durable, c.in-Some.seal))
     (sym c.in-Ok.is ∙ c.open_store.ensures.exact told went)
     (sym c.in-Some.is ∙ c.sealed_store.ensures.answer))
 
@@ -80,14 +80,14 @@ returns-in-Some-clause-found g c = λ told.
     let found = sealed_found c.in-Ok.opening.totals c.in-Ok.opening.seal c.in-Some.durable c.in-Some.seal
     (sym c.sealed_store.ensures.answer ∙ c.in-Some.is) in (
       found.0,
-      subst (λ (f : Found Durable). IsAsFound totals.reads states.state_number_of 0 (g.B.Board.image board)
-          (g.B.Board.in_flight board) f) found.1 (c.in-Ok.ensures.opened told).totals,
+      subst (λ (f : Found Durable). IsAsFound totals.reads states.state_number_of 0 (g.B.Printer.image board)
+          (g.B.Printer.in_flight board) f) found.1 (c.in-Ok.ensures.opened told).totals,
     )
 
 pub returns-in-Some-clause-opens : goal.returns-in-Some-clause-opens
 returns-in-Some-clause-opens g c =
     let h = c.open_store.ensures in
-    opens-as g.B.Board _ _ c.args.board.now c.open_store.new.board
+    opens-as g.B.Printer _ _ c.args.board.now c.open_store.new.board
     (λ f. absurd (no_fault c.open_store.result c.in-Ok.opening stores.BoardFault c.in-Ok.is f))
     (λ e. absurd (no_fault _ _ _ refl e))
     (record {
@@ -104,7 +104,7 @@ returns-in-Some-clause-opens g c =
 pub returns-in-None-clause-exact : goal.returns-in-None-clause-exact
 returns-in-None-clause-exact g c = λ told good.
     let went = no_fault c.open_store.result c.in-Ok.opening stores.BoardFault c.in-Ok.is in
-    sym (store_opened (g.B.Board.image c.args.board.now) c.in-Ok.opening None
+    sym (store_opened (g.B.Printer.image c.args.board.now) c.in-Ok.opening None
     (sym c.in-Ok.is ∙ c.open_store.ensures.exact told went)
     (sym c.in-None.is ∙ c.sealed_store.ensures.answer))
 
@@ -121,7 +121,7 @@ returns-in-None-clause-cause g c = record {
 pub returns-in-None-clause-looks : goal.returns-in-None-clause-looks
 returns-in-None-clause-looks g c =
     let h = c.open_store.ensures in
-    unwritten-opened g.B.Board
+    unwritten-opened g.B.Printer
     (c.open_store.result ≡ Err stores.BoardFault) ended.NotSealed c.args.board.now c.open_store.new.board
     (λ f. absurd (no_fault c.open_store.result c.in-Ok.opening stores.BoardFault c.in-Ok.is f))
     (record {
@@ -136,7 +136,7 @@ returns-in-None-clause-looks g c =
 pub returns-in-None-clause-opens : goal.returns-in-None-clause-opens
 returns-in-None-clause-opens g c =
     let h = c.open_store.ensures in
-    opens-as g.B.Board _ _ c.args.board.now c.open_store.new.board
+    opens-as g.B.Printer _ _ c.args.board.now c.open_store.new.board
     (λ f. absurd (no_fault c.open_store.result c.in-Ok.opening stores.BoardFault c.in-Ok.is f))
     (λ e. absurd (ends_apart ended.NotSealed ended.BoardFault refl (same_fault _ _ _ refl e)))
     (record {

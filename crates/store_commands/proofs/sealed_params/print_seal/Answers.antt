@@ -10,7 +10,7 @@ use Rattle.store_commands.proofs.sealed_params.print_seal.Goals as goal
 
 pub returns-in_err-print-clause-begun : goal.returns-in_err-print-clause-begun
 returns-in_err-print-clause-begun g c = λ told.
-    let printed = g.B.Board.printed in
+    let printed = g.B.Printer.printed in
     let seal = c.args.seal.now in
     let old = printed c.args.board.now in
     let new = printed c.print.new.self in
@@ -23,7 +23,7 @@ returns-in_err-print-clause-begun g c = λ told.
 
 pub returns-in_err-print_pairs-clause-begun : goal.returns-in_err-print_pairs-clause-begun
 returns-in_err-print_pairs-clause-begun g c = λ told.
-    let printed = g.B.Board.printed in
+    let printed = g.B.Printer.printed in
     let seal = c.args.seal.now in
     let old = printed c.args.board.now in
     let mid = printed c.print.new.self in
@@ -43,7 +43,7 @@ print-requires-2-clause-some g c =
 
 pub returns-clause-begun : goal.returns-clause-begun
 returns-clause-begun g c = λ told.
-    let printed = g.B.Board.printed in
+    let printed = g.B.Printer.printed in
     let seal = c.args.seal.now in
     let old = printed c.args.board.now in
     let mid = printed c.print.new.self in
@@ -62,7 +62,7 @@ returns-clause-begun g c = λ told.
 
 pub returns-clause-whole : goal.returns-clause-whole
 returns-clause-whole g c = λ told.
-    let printed = g.B.Board.printed in
+    let printed = g.B.Printer.printed in
     let seal = c.args.seal.now in
     let old = printed c.args.board.now in
     let mid = printed c.print.new.self in
@@ -96,14 +96,14 @@ returns-clause-steps g c = omega (
 
 pub returns-clause-cause : goal.returns-clause-cause
 returns-clause-cause g c =
-    let faults = g.B.Board.faults in
+    let faults = g.B.Printer.faults in
     subst (λ (count : ℕ). HasCause count (faults c.print-2.new.self) c.print-2.result)
     (c.in_ok-print_pairs.ensures.cause.kept (refl {a = true}) ∙ c.in_ok-print.ensures.cause.kept (refl {a = true}))
     c.print-2.ensures.cause
 
 pub returns-clause-store : goal.returns-clause-store
 returns-clause-store g c =
-    let B = g.B.Board in
+    let B = g.B.Printer in
     keeps_then B c.args.board.now c.print_pairs.new.board c.print-2.new.self
     (keeps_then B c.args.board.now c.print.new.self c.print_pairs.new.board
     (keeps_print B c.args.board.now c.print.new.self _ c.print.ensures.image c.print.ensures.flight

@@ -11,11 +11,11 @@ use Rattle.store_commands.proofs.shifts.print_shifts.Goals as goal
 -- there is no sealed store
 pub returns-in-Err : goal.returns-in-Err
 returns-in-Err g c =
-    carries-looked g.F.Files g.B.Board shifts_command c.args.files.now c.args.files.now c.args.board.now
+    carries-looked g.F.Files g.B.Printer shifts_command c.args.files.now c.args.files.now c.args.board.now
     c.open_sealed.new.board c.args.steps.now c.open_sealed.new.steps c.in-Err.why tt (λ status w. w)
     (λ known.
     let rest = g.F.Files.rest c.args.files.now in
-    ends-barred g.B.Board shifts_command rest rest _ c.args.board.now c.open_sealed.new.board
+    ends-barred g.B.Printer shifts_command rest rest _ c.args.board.now c.open_sealed.new.board
     (λ (o : Result (Durable × Seal) Ended). shifts_answer o (rest 1)) refl refl
     c.open_sealed.result (c.open_sealed.ensures.exact known.1) c.open_sealed.ensures.opens (λ e. absurd cc)
     (λ e. absurd cc) c.in-Err.why c.in-Err.is c.in-Err.ensures.barred refl)
@@ -30,14 +30,14 @@ returns-in-Err g c =
 -- there is no report
 pub returns-in-Err-report_of_word : goal.returns-in-Err-report_of_word
 returns-in-Err-report_of_word g c =
-    carries-looked g.F.Files g.B.Board shifts_command c.args.files.now c.report_of_word.new.files c.args.board.now
+    carries-looked g.F.Files g.B.Printer shifts_command c.args.files.now c.report_of_word.new.files c.args.board.now
     c.open_sealed.new.board c.args.steps.now c.open_sealed.new.steps c.refused_report.result tt (λ status w. w)
     (λ known.
     let rest = g.F.Files.rest in
-    let printed = g.B.Board.printed in
+    let printed = g.B.Printer.printed in
     rw c.refused_report.ensures
     (course-no_report (rest c.args.files.now) (rest c.report_of_word.new.files)
-    (g.B.Board.image c.args.board.now) _ _ g.B.Board.tells_text
+    (g.B.Printer.image c.args.board.now) _ _ g.B.Printer.tells_text
     (printed c.args.board.now) (printed c.open_sealed.new.board) c.open_sealed.ensures.opens.reads.text
     c.in-Ok.store (as_found c.open_sealed.result _ c.in-Ok.store ended.BoardFault c.in-Ok.is
     (c.open_sealed.ensures.exact known.1)) c.in-Err-report_of_word.fault
@@ -67,18 +67,18 @@ returns-in-Err-report_of_word g c =
     (unless_read c.report_of_word.result c.in-Err-report_of_word.fault reports.ReadFault ended_for_report
     c.in-Err-report_of_word.is
     c.refused_report.ensures refl c.report_of_word.ensures.counts)
-    (unwritten-opened g.B.Board _ c.refused_report.result c.args.board.now c.open_sealed.new.board
+    (unwritten-opened g.B.Printer _ c.refused_report.result c.args.board.now c.open_sealed.new.board
     (λ f. absurd (no_fault c.open_sealed.result c.in-Ok.store ended.BoardFault c.in-Ok.is f))
     c.open_sealed.ensures.opens)
 
 -- the report is printed
 pub returns-in-Ok-print_text : goal.returns-in-Ok-print_text
 returns-in-Ok-print_text g c =
-    carries-looked g.F.Files g.B.Board shifts_command c.args.files.now c.report_of_word.new.files c.args.board.now
+    carries-looked g.F.Files g.B.Printer shifts_command c.args.files.now c.report_of_word.new.files c.args.board.now
     c.print_text.new.board c.args.steps.now c.print_text.new.steps ended.Done tt (λ status w. w)
     (λ known.
     let rest = g.F.Files.rest in
-    ends-shown g.B.Board shifts_command (rest c.args.files.now)
+    ends-shown g.B.Printer shifts_command (rest c.args.files.now)
     (rest c.report_of_word.new.files) _ c.args.board.now c.open_sealed.new.board
     (λ (o : Result (Durable × Seal) Ended). shifts_answer o (rest c.args.files.now 1)) refl refl c.open_sealed.result
     (c.open_sealed.ensures.exact known.1) c.open_sealed.ensures.opens
@@ -114,18 +114,18 @@ returns-in-Ok-print_text g c =
     )))
     (λ read good. c.report_of_word.ensures.counts (no_fault c.report_of_word.result c.in-Ok-report_of_word.report
     reports.ReadFault c.in-Ok-report_of_word.is))
-    (unwritten-behind g.B.Board _ ended.Done c.args.board.now c.open_sealed.new.board c.print_text.new.board
+    (unwritten-behind g.B.Printer _ ended.Done c.args.board.now c.open_sealed.new.board c.print_text.new.board
     (no_fault c.open_sealed.result c.in-Ok.store ended.BoardFault c.in-Ok.is) c.open_sealed.ensures.opens
-    (g.met.B.Board.only_now c.open_sealed.new.board) c.print_text.ensures.store)
+    (g.met.B.Printer.only_now c.open_sealed.new.board) c.print_text.ensures.store)
 
 -- the board fails
 pub returns : goal.returns
 returns g c =
-    carries-looked g.F.Files g.B.Board shifts_command c.args.files.now c.report_of_word.new.files c.args.board.now
+    carries-looked g.F.Files g.B.Printer shifts_command c.args.files.now c.report_of_word.new.files c.args.board.now
     c.print_text.new.board c.args.steps.now c.print_text.new.steps ended.BoardFault tt (λ status w. w)
     (λ known.
     let rest = g.F.Files.rest in
-    ends-begun g.B.Board shifts_command (rest c.args.files.now)
+    ends-begun g.B.Printer shifts_command (rest c.args.files.now)
     (rest c.report_of_word.new.files) _ c.args.board.now c.open_sealed.new.board
     (λ (o : Result (Durable × Seal) Ended). shifts_answer o (rest c.args.files.now 1)) refl refl c.open_sealed.result
     (c.open_sealed.ensures.exact known.1) c.open_sealed.ensures.opens
@@ -169,6 +169,6 @@ returns g c =
     )))
     (λ read good. c.report_of_word.ensures.counts (no_fault c.report_of_word.result c.in-Ok-report_of_word.report
     reports.ReadFault c.in-Ok-report_of_word.is))
-    (unwritten-behind g.B.Board _ ended.BoardFault c.args.board.now c.open_sealed.new.board c.print_text.new.board
+    (unwritten-behind g.B.Printer _ ended.BoardFault c.args.board.now c.open_sealed.new.board c.print_text.new.board
     (no_fault c.open_sealed.result c.in-Ok.store ended.BoardFault c.in-Ok.is) c.open_sealed.ensures.opens
-    (g.met.B.Board.only_now c.open_sealed.new.board) c.print_text.ensures.store)
+    (g.met.B.Printer.only_now c.open_sealed.new.board) c.print_text.ensures.store)

@@ -8,9 +8,9 @@ use Rattle.store_commands.proofs.totals.print_store.Goals as goal
 -- there is no sealed store
 pub returns-in-Err : goal.returns-in-Err
 returns-in-Err g c = λ contents.
-    carries-looked (no_files contents) g.B.Board totals_command tt tt c.args.board.now c.open_sealed.new.board
+    carries-looked (no_files contents) g.B.Printer totals_command tt tt c.args.board.now c.open_sealed.new.board
     c.args.steps.now c.open_sealed.new.steps c.in-Err.why tt (λ status w. w)
-    (λ tells. ends-barred g.B.Board totals_command contents contents _ c.args.board.now c.open_sealed.new.board
+    (λ tells. ends-barred g.B.Printer totals_command contents contents _ c.args.board.now c.open_sealed.new.board
     totals_answer refl refl
     c.open_sealed.result (c.open_sealed.ensures.exact tells) c.open_sealed.ensures.opens (λ e. absurd cc)
     (λ e. absurd cc) c.in-Err.why c.in-Err.is c.in-Err.ensures.barred refl)
@@ -21,9 +21,9 @@ returns-in-Err g c = λ contents.
 pub returns-in-Ok-print_totals : goal.returns-in-Ok-print_totals
 returns-in-Ok-print_totals g c = λ contents.
     let text = totals_text c.in-Ok.store.1.decimals c.in-Ok.store.0 in
-    carries-looked (no_files contents) g.B.Board totals_command tt tt c.args.board.now c.print_totals.new.board
+    carries-looked (no_files contents) g.B.Printer totals_command tt tt c.args.board.now c.print_totals.new.board
     c.args.steps.now c.print_totals.new.steps ended.Done tt (λ status w. w)
-    (λ tells. ends-shown g.B.Board totals_command contents contents _ c.args.board.now c.open_sealed.new.board
+    (λ tells. ends-shown g.B.Printer totals_command contents contents _ c.args.board.now c.open_sealed.new.board
     totals_answer refl refl
     c.open_sealed.result (c.open_sealed.ensures.exact tells) c.open_sealed.ensures.opens c.in-Ok.store
     c.in-Ok.is text text
@@ -33,17 +33,17 @@ returns-in-Ok-print_totals g c = λ contents.
     (cause_done (c.in-Ok-print_totals.ensures.cause.kept refl
     ∙ c.open_sealed.ensures.opens.count (no_fault c.open_sealed.result c.in-Ok.store ended.BoardFault c.in-Ok.is)))
     (λ word not. refl) (λ known word never. refl) (λ read good word. refl)
-    (unwritten-behind g.B.Board _ ended.Done c.args.board.now c.open_sealed.new.board c.print_totals.new.board
+    (unwritten-behind g.B.Printer _ ended.Done c.args.board.now c.open_sealed.new.board c.print_totals.new.board
     (no_fault c.open_sealed.result c.in-Ok.store ended.BoardFault c.in-Ok.is) c.open_sealed.ensures.opens
-    (g.met.B.Board.only_now c.open_sealed.new.board) c.print_totals.ensures.store)
+    (g.met.B.Printer.only_now c.open_sealed.new.board) c.print_totals.ensures.store)
 
 -- the board fails
 pub returns-in-Err-print_totals : goal.returns-in-Err-print_totals
 returns-in-Err-print_totals g c = λ contents.
     let text = totals_text c.in-Ok.store.1.decimals c.in-Ok.store.0 in
-    carries-looked (no_files contents) g.B.Board totals_command tt tt c.args.board.now c.print_totals.new.board
+    carries-looked (no_files contents) g.B.Printer totals_command tt tt c.args.board.now c.print_totals.new.board
     c.args.steps.now c.print_totals.new.steps ended.BoardFault tt (λ status w. w)
-    (λ tells. ends-begun g.B.Board totals_command contents contents _ c.args.board.now c.open_sealed.new.board
+    (λ tells. ends-begun g.B.Printer totals_command contents contents _ c.args.board.now c.open_sealed.new.board
     totals_answer refl refl
     c.open_sealed.result (c.open_sealed.ensures.exact tells) c.open_sealed.ensures.opens c.in-Ok.store
     c.in-Ok.is text text
@@ -57,6 +57,6 @@ returns-in-Err-print_totals g c = λ contents.
           (no_fault c.open_sealed.result c.in-Ok.store ended.BoardFault c.in-Ok.is),
       c.print_totals.ensures.cause.failed (ap is_err c.in-Err-print_totals.is),
     ))) (λ word not. refl) (λ known word never. refl) (λ read good word. refl)
-    (unwritten-behind g.B.Board _ ended.BoardFault c.args.board.now c.open_sealed.new.board c.print_totals.new.board
+    (unwritten-behind g.B.Printer _ ended.BoardFault c.args.board.now c.open_sealed.new.board c.print_totals.new.board
     (no_fault c.open_sealed.result c.in-Ok.store ended.BoardFault c.in-Ok.is) c.open_sealed.ensures.opens
-    (g.met.B.Board.only_now c.open_sealed.new.board) c.print_totals.ensures.store)
+    (g.met.B.Printer.only_now c.open_sealed.new.board) c.print_totals.ensures.store)

@@ -9,7 +9,7 @@ use Rattle.store_commands.proofs.totals.print_totals.Goals as goal
 
 pub returns-in_err-print-clause-begun : goal.returns-in_err-print-clause-begun
 returns-in_err-print-clause-begun g c = λ tells.
-    let printed = g.B.Board.printed in
+    let printed = g.B.Printer.printed in
     let heading = totals_heading c.args.decimals c.args.durable.now in
     begins_more (printed c.args.board.now) (printed c.print.new.self) heading
     (positions_text c.args.decimals c.args.durable.now.totals.shares)
@@ -20,7 +20,7 @@ returns-in_err-print-clause-begun g c = λ tells.
 
 pub loop-place-init : goal.loop-place-init
 loop-place-init g c =
-    let old = g.B.Board.printed c.args.board.now in
+    let old = g.B.Printer.printed c.args.board.now in
     let heading = totals_heading c.args.decimals c.args.durable.now in
     record {
       printed = λ tells.
@@ -29,14 +29,14 @@ loop-place-init g c =
           (◌∙◌ {c = heading} c.as_slice.ensures.value c.heading-line.ensures.text)
           ∙ sym (append-nil (old ++ heading));
       faults = c.in_ok-print.ensures.cause.kept (refl {a = true});
-      store = keeps_print g.B.Board c.args.board.now c.print.new.self _ c.print.ensures.image c.print.ensures.flight
+      store = keeps_print g.B.Printer c.args.board.now c.print.new.self _ c.print.ensures.image c.print.ensures.flight
           c.print.ensures.time;
       steps = omega (arith, c.print.ensures.step);
     }
 
 pub returns-in_err-print_position-clause-begun : goal.returns-in_err-print_position-clause-begun
 returns-in_err-print_position-clause-begun g c = λ tells.
-    let printed = g.B.Board.printed in
+    let printed = g.B.Printer.printed in
     let old = printed c.args.board.now in
     let heading = totals_heading c.args.decimals c.args.durable.now in
     let row = position_at c.args.decimals c.args.durable.now.totals.shares in
@@ -49,7 +49,7 @@ returns-in_err-print_position-clause-begun g c = λ tells.
 
 pub loop-place-preserved : goal.loop-place-preserved
 loop-place-preserved g c =
-    let printed = g.B.Board.printed in
+    let printed = g.B.Printer.printed in
     let start = printed c.args.board.now ++ totals_heading c.args.decimals c.args.durable.now in
     let row = position_at c.args.decimals c.args.durable.now.totals.shares in
     let i = c.loop-place.place in
@@ -58,7 +58,7 @@ loop-place-preserved g c =
           printed-row row i start (printed c.loop-place.board) (printed c.print_position.new.board) (row i) refl
           (c.loop-place.invariant.printed tells) (c.in_ok-print_position.ensures.whole tells);
       faults = c.in_ok-print_position.ensures.cause.kept (refl {a = true}) ∙ c.loop-place.invariant.faults;
-      store = keeps_then g.B.Board c.args.board.now c.loop-place.board c.print_position.new.board
+      store = keeps_then g.B.Printer c.args.board.now c.loop-place.board c.print_position.new.board
           c.loop-place.invariant.store c.print_position.ensures.store;
       steps = omega (arith, c.loop-place.invariant.steps, c.print_position.ensures.steps);
     }
@@ -74,7 +74,7 @@ whole_at row i old heading now e h =
 
 pub returns-clause-whole : goal.returns-clause-whole
 returns-clause-whole g c = λ tells.
-    let printed = g.B.Board.printed in
+    let printed = g.B.Printer.printed in
     let all : c.loop-place.place ≡ 9 = omega (arith, c.loop-place-test.false, c.loop-place.auto.place-end) in
     whole_at (position_at c.args.decimals c.args.durable.now.totals.shares) c.loop-place.place
     (printed c.args.board.now) (totals_heading c.args.decimals c.args.durable.now)
@@ -82,7 +82,7 @@ returns-clause-whole g c = λ tells.
 
 pub returns-clause-begun : goal.returns-clause-begun
 returns-clause-begun g c = λ tells.
-    let printed = g.B.Board.printed in
+    let printed = g.B.Printer.printed in
     let all : c.loop-place.place ≡ 9 = omega (arith, c.loop-place-test.false, c.loop-place.auto.place-end) in
     begins_whole (printed c.args.board.now) (printed c.loop-place.board)
     (totals_text c.args.decimals c.args.durable.now)

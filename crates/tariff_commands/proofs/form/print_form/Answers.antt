@@ -3,6 +3,6 @@ use Rattle.tariff_commands.proofs.form.print_form.Goals as goal
 
 pub returns : goal.returns
 returns g c =
-    carries-made g.F.Files g.B.Board (word_is (λ text. form_answer (tree_in text))).makes c.args.files.now
+    carries-made g.F.Files g.B.Printer (word_is (λ text. form_answer (tree_in text))).makes c.args.files.now
     c.form_of_word.new.files c.args.board.now c.print_made.new.board c.args.steps.now c.print_made.new.steps
     c.print_made.result c.form_of_word.ensures (λ contents left image later h. h) c.print_made.ensures

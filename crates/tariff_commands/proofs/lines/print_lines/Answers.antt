@@ -4,7 +4,7 @@ use Rattle.tariff_commands.proofs.lines.print_lines.Goals as goal
 
 pub returns : goal.returns
 returns g c =
-    carries-made g.F.Files g.B.Board (word_is (λ text. lines_answer c.args.constant (tariff_in text))).makes
+    carries-made g.F.Files g.B.Printer (word_is (λ text. lines_answer c.args.constant (tariff_in text))).makes
     c.args.files.now c.list_of_word.new.files c.args.board.now c.print_made.new.board c.args.steps.now
     c.print_made.new.steps c.print_made.result c.list_of_word.ensures (λ contents left image later h. h)
     c.print_made.ensures

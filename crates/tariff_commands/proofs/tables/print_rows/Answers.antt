@@ -6,7 +6,7 @@ use Rattle.tariff_commands.proofs.tables.print_rows.Goals as goal
 
 pub returns-in_err-print-clause-begun : goal.returns-in_err-print-clause-begun
 returns-in_err-print-clause-begun g c = λ tells.
-    let printed = g.B.Board.printed in
+    let printed = g.B.Printer.printed in
     let row = row_text c.args.tables.now in
     begins-row row (row_count c.args.tables.now) c.loop-i.i (printed c.args.board.now)
     (printed c.loop-i.board) (printed c.print.new.self) c.as_slice.result.now
@@ -16,7 +16,7 @@ returns-in_err-print-clause-begun g c = λ tells.
 
 pub loop-i-preserved : goal.loop-i-preserved
 loop-i-preserved g c =
-    let printed = g.B.Board.printed in
+    let printed = g.B.Printer.printed in
     let row = row_text c.args.tables.now in
     let i = c.loop-i.i in
     record {
@@ -25,8 +25,8 @@ loop-i-preserved g c =
           c.as_slice.result.now (◌∙◌ {c = row i} c.as_slice.ensures.value c.row_of-line.ensures.text)
           (c.loop-i.invariant.printed tells) (c.in_ok-print.ensures.whole tells);
       faults = c.in_ok-print.ensures.cause.kept (refl {a = true}) ∙ c.loop-i.invariant.faults;
-      store = keeps_then g.B.Board c.args.board.now c.loop-i.board c.print.new.self c.loop-i.invariant.store
-          (keeps_print g.B.Board c.loop-i.board c.print.new.self _ c.print.ensures.image c.print.ensures.flight
+      store = keeps_then g.B.Printer c.args.board.now c.loop-i.board c.print.new.self c.loop-i.invariant.store
+          (keeps_print g.B.Printer c.loop-i.board c.print.new.self _ c.print.ensures.image c.print.ensures.flight
           c.print.ensures.time);
       steps = omega (arith, c.loop-i.invariant.steps, c.print.ensures.step);
     }
@@ -38,7 +38,7 @@ whole_at row n i a b e h = h ∙ ap (λ (m : ℕ). a ++ flat_map row (range_with
 
 pub returns-clause-begun : goal.returns-clause-begun
 returns-clause-begun g c = λ tells.
-    let printed = g.B.Board.printed in
+    let printed = g.B.Printer.printed in
     let all : c.loop-i.i ≡ row_count c.args.tables.now =
     omega (arith, c.loop-i-test.false, c.loop-i.auto.i-end, c.rows-i-end.ensures) in
     begins_whole (printed c.args.board.now) (printed c.loop-i.board) (rows_text c.args.tables.now)
@@ -47,5 +47,5 @@ returns-clause-begun g c = λ tells.
 
 pub returns-in_err-print-clause-store : goal.returns-in_err-print-clause-store
 returns-in_err-print-clause-store g c =
-    keeps_then g.B.Board c.args.board.now c.loop-i.board c.print.new.self c.loop-i.invariant.store (keeps_print
-    g.B.Board c.loop-i.board c.print.new.self _ c.print.ensures.image c.print.ensures.flight c.print.ensures.time)
+    keeps_then g.B.Printer c.args.board.now c.loop-i.board c.print.new.self c.loop-i.invariant.store (keeps_print
+    g.B.Printer c.loop-i.board c.print.new.self _ c.print.ensures.image c.print.ensures.flight c.print.ensures.time)

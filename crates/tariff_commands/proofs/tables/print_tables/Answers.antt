@@ -7,7 +7,7 @@ use Rattle.tariff_commands.proofs.tables.print_tables.Goals as goal
 
 pub returns-in-Err : goal.returns-in-Err
 returns-in-Err g c = let f = c.tables_of_word.ensures in let fault = c.in-Err.fault in let k = c.args.constant in
-    rw c.refused_by.ensures (carries-printed g.F.Files g.B.Board (tabulates k).makes c.args.files.now
+    rw c.refused_by.ensures (carries-printed g.F.Files g.B.Printer (tabulates k).makes c.args.files.now
     c.tables_of_word.new.files c.args.board.now c.args.board.now c.args.steps.now c.args.steps.now (ended_for fault)
     (λ image. makes-unread (tabulates k) (reads-bad f.read_fault f.others f.counts ended_for c.in-Err.is
     (read_fault-text fault) refl (not_board-text fault)) refl
@@ -23,7 +23,7 @@ returns g c =
     let k = c.args.constant in
     let tables = c.in-Ok.tables in
     let made = c.in-Ok.ensures.found in
-    rw c.ended_behind.ensures (carries-printed g.F.Files g.B.Board (tabulates k).makes c.args.files.now
+    rw c.ended_behind.ensures (carries-printed g.F.Files g.B.Printer (tabulates k).makes c.args.files.now
     c.tables_of_word.new.files c.args.board.now c.print_rows.new.board c.args.steps.now c.print_rows.new.steps _
     (λ image. makes-read (tabulates k) (reads-ok f.read_fault f.others f.counts c.in-Ok.ensures.ended c.in-Ok.is)
     (rows_text tables)

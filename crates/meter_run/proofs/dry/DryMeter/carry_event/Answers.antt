@@ -24,21 +24,21 @@ returns-clause-carried g c =
     let d = c.args.self.now.durable in
     let e = c.as_slice.ensures.value in
     on_ok_weaker c.perform_all.result
-    (λ both. carries_event g.B.Board c.args.tables.now c.args.seal.now c.args.self.now c.args.board.now
+    (λ both. carries_event g.B.Printer c.args.tables.now c.args.seal.now c.args.self.now c.args.board.now
     (record {
       core = c.step_or_resume.new.core;
       durable = c.perform_all.new.durable;
     }) c.perform_all.new.board c.args.event
     c.step_or_resume.new.acts.items
     c.step_or_resume.ensures.meets (both.0 ∙ ap (after_acts d) e) (λ told. both.1 told
-    ∙ ap (λ (acts : List Act). g.B.Board.printed c.args.board.now ++ shown_texts acts) e) c.perform_all.ensures.store)
+    ∙ ap (λ (acts : List Act). g.B.Printer.printed c.args.board.now ++ shown_texts acts) e) c.perform_all.ensures.store)
     (on_ok_both _ _ c.perform_all.result c.perform_all.ensures.durable
     (on_ok_under _ _ c.perform_all.result c.perform_all.ensures.whole))
 
 pub returns-clause-broke_off : goal.returns-clause-broke_off
 returns-clause-broke_off g c =
-    on_err c.perform_all.result _ (breaks_event g.B.Board c.args.tables.now c.args.seal.now c.args.self.now
+    on_err c.perform_all.result _ (breaks_event g.B.Printer c.args.tables.now c.args.seal.now c.args.self.now
     c.args.board.now c.perform_all.new.board c.step_or_resume.new.core c.args.event c.step_or_resume.new.acts.items
-    c.step_or_resume.ensures.meets (λ told. subst (λ (acts : List Act). Begins (g.B.Board.printed c.args.board.now)
-    (g.B.Board.printed c.perform_all.new.board) (shown_texts acts)) c.as_slice.ensures.value
+    c.step_or_resume.ensures.meets (λ told. subst (λ (acts : List Act). Begins (g.B.Printer.printed c.args.board.now)
+    (g.B.Printer.printed c.perform_all.new.board) (shown_texts acts)) c.as_slice.ensures.value
     (c.perform_all.ensures.begun told)) c.perform_all.ensures.store)

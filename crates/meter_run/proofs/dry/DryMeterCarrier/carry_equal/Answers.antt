@@ -19,7 +19,7 @@ pub returns-clause-carried : goal.returns-clause-carried
 returns-clause-carried g c = λ board ready.
     let n = c.equal_intervals.result in
     let x = c.args.self.now in
-    subst (λ (es : List Event). CarriesEvents g.B.Board c.args.by.now.tables.now c.args.by.now.seal.now x board es
+    subst (λ (es : List Event). CarriesEvents g.B.Printer c.args.by.now.tables.now c.args.by.now.seal.now x board es
     (record x { core = c.equal_intervals.new.self }) board) (intervals_are c.args.pulses n)
-    (carries_still g.B.Board c.args.by.now.tables.now c.args.by.now.seal.now
+    (carries_still g.B.Printer c.args.by.now.tables.now c.args.by.now.seal.now
     (intervals_of c.args.pulses n) x c.equal_intervals.new.self board c.equal_intervals.ensures.meets)

@@ -15,7 +15,7 @@ returns-clause-ready g c = λ board ready. record {
   lawful = c.equal_intervals.ensures.lawful;
   knows = knows_still c.args.by.now.tables.now c.args.by.now.seal.now
       (intervals_of c.args.pulses c.equal_intervals.result) c.args.self.now.core c.equal_intervals.new.self
-      c.equal_intervals.ensures.meets c.equal_intervals.ensures.lawful g.B.Board c.args.self.now.known board
+      c.equal_intervals.ensures.meets c.equal_intervals.ensures.lawful g.B.Printer c.args.self.now.known board
       c.equal_intervals.ensures.same.0 ready.knows;
 }
 
@@ -24,10 +24,10 @@ returns-clause-carried g c = λ board ready.
     let n = c.equal_intervals.result in
     let x = c.args.self.now in
     record {
-      out = subst (λ (es : List Event). CarriesOut g.B.Board c.args.by.now.tables.now c.args.by.now.seal.now (λ s m.
+      out = subst (λ (es : List Event). CarriesOut g.B.Printer c.args.by.now.tables.now c.args.by.now.seal.now (λ s m.
           run s es m) x board (record x { core = c.equal_intervals.new.self }) board) (intervals_are c.args.pulses n)
-          (out_still g.B.Board c.args.by.now.tables.now c.args.by.now.seal.now (intervals_of c.args.pulses n) x
-          c.equal_intervals.new.self board (g.met.B.Board.only_now board) c.equal_intervals.ensures.meets);
+          (out_still g.B.Printer c.args.by.now.tables.now c.args.by.now.seal.now (intervals_of c.args.pulses n) x
+          c.equal_intervals.new.self board (g.met.B.Printer.only_now board) c.equal_intervals.ensures.meets);
       supply =
           equal_keep_off x.core.state c.equal_intervals.new.self.state c.args.pulses n c.equal_intervals.ensures.same.0;
     }

@@ -18,7 +18,7 @@ power_up-requires-clause-second g c = subst IsTimely c.in-Some.ensures.comes.0 c
 
 pub returns-in-Some-clause-attempts : goal.returns-in-Some-clause-attempts
 returns-in-Some-clause-attempts g c =
-    subst (λ (e : Event). Attempts g.B.Board c.args.tables.now c.args.seal.now (λ s m. step s e m) c.args.self.now
+    subst (λ (e : Event). Attempts g.B.Printer c.args.tables.now c.args.seal.now (λ s m. step s e m) c.args.self.now
     c.args.board.now c.power_up.result c.power_up.new.meter c.power_up.new.board) (sym c.in-Some.ensures.comes.0)
     c.power_up.ensures.attempts
 
@@ -33,13 +33,14 @@ pub returns-in-None-known-clause-attempts : goal.returns-in-None-known-clause-at
 returns-in-None-known-clause-attempts g c =
     let a = c.args.board.now in
     let printed = c.print_refusal.ensures.printed in
-    refusal_attempted g.B.Board c.args.tables.now c.args.seal.now c.args.self.now a c.print_refusal.new.board
-    c.args.event c.requires.ready c.in-None-known.is (c.supply_at.ensures.other c.in-None.is) (g.met.B.Board.only_now a)
+    refusal_attempted g.B.Printer c.args.tables.now c.args.seal.now c.args.self.now a c.print_refusal.new.board
+    c.args.event c.requires.ready c.in-None-known.is (c.supply_at.ensures.other c.in-None.is)
+    (g.met.B.Printer.only_now a)
     printed.store printed.leaves printed.begun c.print_refusal.result printed.whole printed.cause
 
 pub returns-in-None-known-clause-supply : goal.returns-in-None-known-clause-supply
 returns-in-None-known-clause-supply g c =
-    unknown_keeps_off g.B.Board c.args.tables.now c.args.seal.now c.args.self.now c.args.board.now
+    unknown_keeps_off g.B.Printer c.args.tables.now c.args.seal.now c.args.self.now c.args.board.now
     (c.args.event ∷ []) c.in-None-known.is c.requires.ready
 
 -- ---- the core moves by the event
@@ -64,7 +65,7 @@ do_acts-requires-clause-acts g c =
     let core = c.step_into.new.self in
     let acts = c.step_into.new.acts.items in
     let takes = c.step_into.ensures.takes in
-    let ready = known_ready g.B.Board t k x c.in-Some-known.known c.args.board.now c.in-Some-known.is c.requires.ready
+    let ready = known_ready g.B.Printer t k x c.in-Some-known.known c.args.board.now c.in-Some-known.is c.requires.ready
     in
     subst (AreFor d) (sym c.as_slice.ensures.value)
     (acts_for t k c.args.event x.core core d acts ready (meets_with t k c.args.event x.core core d acts takes)
@@ -75,9 +76,9 @@ do_acts-requires-clause-may g c =
     let t = c.args.tables.now in
     let k = c.in-Some-known.known in
     let x = c.args.self.now in
-    let ready = known_ready g.B.Board t c.args.seal.now x k c.args.board.now c.in-Some-known.is c.requires.ready in (
+    let ready = known_ready g.B.Printer t c.args.seal.now x k c.args.board.now c.in-Some-known.is c.requires.ready in (
       t,
-      may_known g.B.Board t c.args.seal.now x k c.args.board.now c.as_slice.result.now c.in-Some-known.is
+      may_known g.B.Printer t c.args.seal.now x k c.args.board.now c.as_slice.result.now c.in-Some-known.is
           c.requires.ready
           (subst (λ (acts : List Act). All (IsLawfulAct t k.durable.number) acts) (sym c.as_slice.ensures.value)
           (lawful_beside t c.args.seal.now c.args.event x.core c.step_into.new.self k.durable c.step_into.new.acts.items
@@ -98,11 +99,11 @@ returns-in-Some-known-clause-attempts g c =
     let acts = c.as_slice.result.now in
     let e = c.as_slice.ensures.value in
     let done = c.do_acts.ensures in
-    let ready = known_ready g.B.Board t k x known a c.in-Some-known.is c.requires.ready in
+    let ready = known_ready g.B.Printer t k x known a c.in-Some-known.is c.requires.ready in
     let lawful = subst (λ (acts : List Act). All (IsLawfulAct t d.number) acts) (sym e)
     (lawful_beside t k c.args.event x.core core d moved ready (c.supply_at.ensures.other c.in-None.is) takes) in
-    let may = may_known g.B.Board t k x known a acts c.in-Some-known.is c.requires.ready lawful in
-    event_attempted g.B.Board t k x a known core c.do_acts.new.board c.args.event acts c.in-Some-known.is
+    let may = may_known g.B.Printer t k x known a acts c.in-Some-known.is c.requires.ready lawful in
+    event_attempted g.B.Printer t k x a known core c.do_acts.new.board c.args.event acts c.in-Some-known.is
     (meets_as t k x.core d core c.args.event acts moved e (meets_with t k c.args.event x.core core d moved takes))
     (λ told. done.points told t may) done.beside
     c.do_acts.result c.do_acts.new.known c.requires.ready.secured ready
@@ -118,7 +119,7 @@ returns-in-Some-known-clause-steps g c =
     let core = c.step_into.new.self in
     let moved = c.step_into.new.acts.items in
     let few = few_commits t k c.args.event x.core core d acts
-    (known_ready g.B.Board t k x c.in-Some-known.known c.args.board.now c.in-Some-known.is c.requires.ready)
+    (known_ready g.B.Printer t k x c.in-Some-known.known c.args.board.now c.in-Some-known.is c.requires.ready)
     (meets_as t k x.core d core c.args.event acts moved c.as_slice.ensures.value
     (meets_with t k c.args.event x.core core d moved c.step_into.ensures.takes)) in
     omega (arith, few, c.as_slice.ensures.fits, c.step_into.ensures.steps, c.do_acts.ensures.steps)
@@ -132,5 +133,5 @@ returns-in-Some-known-clause-supply g c =
     let core = c.step_into.new.self in
     let moved = c.step_into.new.acts.items in
     event_keeps_off t k c.args.event x.core core d moved
-    (known_ready g.B.Board t k x c.in-Some-known.known c.args.board.now c.in-Some-known.is c.requires.ready)
+    (known_ready g.B.Printer t k x c.in-Some-known.known c.args.board.now c.in-Some-known.is c.requires.ready)
     (meets_with t k c.args.event x.core core d moved c.step_into.ensures.takes)

@@ -1,7 +1,7 @@
 use Rattle.{std.proofs.Common.{ℕ, List, subst, sym}, memory_devices.specs.{Calls.{IsInSome, Print}, Common.{IsImage}}}
 use Rattle.memory_devices.{specs.MemoryBoard.{contents_of}, proofs.CallEffects.{print_whole, time_is, time_of_print}}
 use Rattle.memory_devices.proofs.CallEffects.{became, became_done, cause_is, print_image, print_ranges, print_text}
-use Rattle.memory_devices.proofs.memory_device.MemoryDeviceBoard.print.Goals as goal
+use Rattle.memory_devices.proofs.memory_device.MemoryDevicePrinter.print.Goals as goal
 
 pub returns-clause-prints : goal.returns-clause-prints
 returns-clause-prints g c =
