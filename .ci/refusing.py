@@ -103,10 +103,10 @@ class Rooms:
 
     def check(self, crate, texts, functions):
         """What the prover says of functions of a crate, with these texts in place of its own."""
-        kept = f"{self.place}/{crate}"
+        kept, tests = f"{self.place}/{crate}", is_of_tests(crate)
         if not os.path.isdir(kept):
             incremental = f"{TOP}/crates/{crate}/out/incremental"
-            if os.path.isdir(incremental):
+            if os.path.isdir(incremental) and not tests:
                 subprocess.run(["cp", "-al", incremental, kept], check=True)
             else:
                 os.mkdir(kept)
@@ -118,10 +118,18 @@ class Rooms:
                 with open(f"{folder}/{file}", "w", encoding="utf-8") as it:
                     it.write(text)
             only = [word for function in functions for word in ("--only", function)]
-            words = self.crates[crate].words(["--jobs", "1"], keeps=False)
+            words = self.crates[crate].words(["--jobs", "1"], tests=tests, keeps=False)
             ran = subprocess.run([self.kit.RATTLE, "check", *words, "--incremental", kept, *only], cwd=folder, errors="replace",
                                  stdin=subprocess.DEVNULL, stdout=subprocess.PIPE, stderr=subprocess.STDOUT)
             return ran.stdout
+
+
+def is_of_tests(crate):
+    """Whether a crate has tests alone: then the prover is to look at these."""
+    root = f"{TOP}/crates/{crate}/src/lib.rt"
+    lines = read(root).split("\n") if os.path.isfile(root) else []
+    before = {above for above, line in zip(lines, lines[1:]) if re.match(r"(?:pub )?mod \w+;", line)}
+    return before == {"#[cfg(test)]"}
 
 
 def is_built(crate):

@@ -55,20 +55,16 @@ read_shares() {
   done
 }
 
-# How many functions are done of a crate that is being proved, given its folder: rt keeps a file of each as it goes. It
-# keeps files of other things too, and those of earlier checks, so no more are counted than the crate has functions.
+# How many functions are done of crates that are being proved, given their folders: rt keeps a file of each as it goes. It
+# keeps files of other things too, and those of earlier checks, so no more are counted than a crate has functions.
 proved_in() {
-  local count most=${has[${1##*/}]-0}
-  count=$(find "$1/out/incremental" -name '*-proofs.*.Proof.oantt' ! -name '*.TheImpl.Proof.oantt' 2>/dev/null | wc -l)
-  [ "$count" -le "$most" ] || count=$most
-  echo "$count"
-}
-
-# The same of all crates that are being proved.
-proved_inside() {
-  local folder count=0
-  for folder in "${proving[@]}"; do count=$((count + $(proved_in "$folder"))); done
-  echo "$count"
+  local folder count most all=0
+  for folder in "$@"; do
+    count=$(find "$folder/out/incremental" -name '*-proofs.*.Proof.oantt' ! -name '*.TheImpl.Proof.oantt' 2>/dev/null | wc -l)
+    most=${has[${folder##*/}]-0}
+    all=$((all + (count < most ? count : most)))
+  done
+  echo "$all"
 }
 
 # Takes note of the crates that are being proved now, of each its folder.
@@ -88,7 +84,7 @@ now_proving() {
 show_progress() {
   local inside spent=$((SECONDS - began_building)) ahead=$left pace=600 from='' to='\n'
   [ ! -t 2 ] || from='\r\033[K' to=''
-  inside=$(proved_inside)
+  inside=$(proved_in "${proving[@]}")
   [ $((done_functions + inside)) -le "$shown_functions" ] || shown_functions=$((done_functions + inside))
   [ "$done_share" -lt 5 ] || pace=$((spent * 100 / done_share))
   [ "$proving_functions" -eq 0 ] || ahead=$((left - proving_share * inside / proving_functions))

@@ -28,13 +28,13 @@ make_lanes() {
   done
 }
 
-# Gives what a lane has made of a crate to the others. rt writes into no file that it has made, so a second name does.
+# Gives what a lane has made of a crate to the others. rt writes into no file that it has made, so a second name does. It
+# locks the folder of a crate while it works there, or on one above it, so another one is waited for.
 give() {
   local at from=${folder[$2]}/$1/out
   for at in "${!folder[@]}"; do
     [ "$at" -ne "$2" ] || continue
-    rm -rf "${folder[at]:?}/$1/out"
-    cp -al "$from" "${folder[at]}/$1/out" 2>/dev/null || cp -a "$from" "${folder[at]}/$1/out"
+    (flock 9; rm -rf "${folder[at]:?}/$1/out"; cp -al "$from" "${folder[at]}/$1/out" 2>/dev/null || cp -a "$from" "${folder[at]}/$1/out") 9<"${folder[at]}/$1"
   done
 }
 

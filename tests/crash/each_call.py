@@ -7,12 +7,13 @@ import re
 import shutil
 import subprocess
 
+from support.built import own_calls
+
 TOP = pathlib.Path(__file__).resolve().parents[2]
 TARIFF, CITY, PARAMS, DRIVE = (
     str(TOP / "examples" / name) for name in ("simple.tariff", "city.tariff", "taxi.params", "morning.drive")
 )
-# The first call that names one of these is the program's own: those before it find the libraries.
-OWN = re.compile(r"taxi\.(store|log)|city\.tariff")
+OWN = r"taxi\.(store|log)|city\.tariff"  # the first call that names one of these is the program's own
 # The errors that a call may give, of those that a medium or a signal causes.
 ERRORS = [
     (r"read|pread64", "EIO EINTR"), (r"write|pwrite64", "EIO ENOSPC EINTR EDQUOT"),
@@ -73,16 +74,7 @@ class Subject:
     def calls(self):
         """The program's own system calls, each by its name and which of this name it is."""
         self.fresh()
-        trace, seen, own, found = self.trial.within / "calls", {}, False, []
-        subprocess.run(["strace", "-qq", "-o", trace, self.program, *self.words], cwd=self.folder, check=False,
-                       stdin=subprocess.DEVNULL, stdout=subprocess.DEVNULL, stderr=subprocess.DEVNULL)
-        for line in trace.read_text(errors="replace").splitlines():
-            name = line.split("(")[0]
-            seen[name] = seen.get(name, 0) + 1
-            own = own or bool(OWN.search(line)) and not line.startswith("execve")
-            if own and re.fullmatch("[a-z0-9_]+", name):
-                found.append((name, seen[name]))
-        return found
+        return own_calls([self.program, *self.words], self.folder, self.trial.within / "calls", OWN)
 
     def count(self, what):
         self.found[what] = self.found.get(what, 0) + 1
@@ -196,12 +188,13 @@ class SecondName(Sealing):
             self.trial.untried.append(f"{self.what}: no kill left a second name")
 
 
-# How the totals begin after each commit of the morning's run, by the store's number: a trip, a held trip and its end, and again.
-COMMITS = {
-    1: "0.000 0.000 0 0.00 0.00 no", 2: "450.000 300.000 1 1.00 4.30 no", 3: "450.000 300.000 1 1.00 4.30 yes",
-    4: "670.000 520.000 2 1.00 8.50 no", 5: "670.000 520.000 2 1.00 8.50 yes", 6: "770.000 620.000 3 1.00 12.40 no",
+# The totals of examples/morning.drive behind each commit, by the store's number: a trip, a held trip and its end, and again.
+ROWS = ("HIRINGS", "FARE", "SUPPLEMENTS", "HIRED", "DISTANCE", "HELD")
+MORNING = {
+    1: ("0", "0.00", "0.00", "0.000 m", "0.000 m", "no"), 2: ("1", "4.30", "1.00", "300.000 m", "450.000 m", "no"),
+    3: ("1", "4.30", "1.00", "300.000 m", "450.000 m", "yes"), 4: ("2", "8.50", "1.00", "520.000 m", "670.000 m", "no"),
+    5: ("2", "8.50", "1.00", "520.000 m", "670.000 m", "yes"), 6: ("3", "12.40", "1.00", "620.000 m", "770.000 m", "no"),
 }
-ROWS = ["DISTANCE", "HIRED", "HIRINGS", "SUPPLEMENTS", "FARE", "HELD"]
 
 
 class Run(Subject):
@@ -229,9 +222,8 @@ class Run(Subject):
         expect(status == 0, f"{what}: totals ends with {status}")
         rows = dict(line.split(" ", 1) for line in printed.splitlines() if " " in line)
         number = int(rows.get("NUMBER", 0))
-        begins = " ".join(rows.get(row, "").removesuffix(" m") for row in ROWS)
-        wanted = [COMMITS.get(number)] + [COMMITS[3]] * (self.status == 7 and number == 4)
-        expect(begins in wanted, f"{what}: the totals are none of the run: {printed}")
+        wanted = [MORNING.get(number)] + [MORNING[3]] * (self.status == 7 and number == 4)
+        expect(tuple(rows.get(row) for row in ROWS) in wanted, f"{what}: the totals are none of the run: {printed}")
         for receipt in re.findall(r"(?m)^RECEIPT (\d+)", self.told):
             expect(int(receipt) <= number, f"{what}: receipt {receipt} was printed, and the store has number {number}")
         self.count(f"number {number}")

@@ -7,9 +7,10 @@ import pathlib
 import shutil
 
 import medium
+from each_call import MORNING
 from power_cuts import (
 
-    MORNING, MORNING_DRIVE, NEXT_DRIVE, PROGRAM, SEAL, STORE, TARIFF, TOP, Folder, check_run, check_sealing, receipts_in,
+    MORNING_DRIVE, NEXT_DRIVE, PROGRAM, SEAL, STORE, TARIFF, TOP, Folder, check_run, check_sealing, receipts_in,
     traced,
 )
 

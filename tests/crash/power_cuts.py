@@ -12,6 +12,7 @@ import sys
 import tempfile
 
 import medium
+from each_call import ROWS
 from heglorwy import roll
 from heglorwy.roll import units
 
@@ -22,13 +23,6 @@ MORNING_DRIVE = str(TOP / "examples/morning.drive")
 STORE = "taxi.store"
 SEAL = ["seal", TARIFF, PARAMS]
 NEXT_DRIVE = "U 1900000000\nK H\nI 0 1\nI 20 100\nK S\nI 0 1\nK C\nI 0 1\n"
-# The totals of examples/morning.drive behind each commit, by the store's number.
-MORNING = {
-    1: ("0", "0.00", "0.00", "0.000 m", "0.000 m"), 2: ("1", "4.30", "1.00", "300.000 m", "450.000 m"),
-    3: ("1", "4.30", "1.00", "300.000 m", "450.000 m"), 4: ("2", "8.50", "1.00", "520.000 m", "670.000 m"),
-    5: ("2", "8.50", "1.00", "520.000 m", "670.000 m"), 6: ("3", "12.40", "1.00", "620.000 m", "770.000 m"),
-}
-ROWS = ("HIRINGS", "FARE", "SUPPLEMENTS", "HIRED", "DISTANCE")
 
 
 class Folder:

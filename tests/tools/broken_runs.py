@@ -1,7 +1,6 @@
 """A taxi whose runs are broken off in many ways: killed at a system call or at some time, at an error of a call, by an
 output that is closed or full."""
 
-import collections
 import pathlib
 import re
 import resource
@@ -10,7 +9,7 @@ import subprocess
 import time
 
 from broken_drives import drive_of
-from support.built import CITY, PARAMS, TAXI
+from support.built import CITY, PARAMS, TAXI, own_calls
 
 STORE = "taxi.store"
 ERRORS = {"write": ["ENOSPC", "EIO", "EDQUOT"], "fsync": ["EIO", "ENOSPC"], "lseek": ["EIO"], "read": ["EIO"]}
@@ -56,16 +55,9 @@ class Taxi:
         return (self.folder / STORE).read_bytes()
 
     def calls_of(self, drive):
-        """The system calls of a run from the first on that names the store: each its name, and its number of that name.
-        The store is put back."""
-        before, seen, found = self.image(), collections.Counter(), []
-        words = ["strace", "-qq", "-o", "calls", TAXI, "run", "tariff", drive]
-        subprocess.run(words, cwd=self.folder, capture_output=True, check=True)
-        for line in (self.folder / "calls").read_text(errors="replace").splitlines():
-            name = line.partition("(")[0]
-            seen[name] += 1
-            if name.isidentifier() and (found or STORE in line):
-                found.append((name, seen[name]))
+        """The system calls of a run from the first on that names the store, which is put back."""
+        before = self.image()
+        found = own_calls([TAXI, "run", "tariff", drive], self.folder, self.folder / "calls", STORE)
         self.put(STORE, before)
         return found
 

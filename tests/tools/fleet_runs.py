@@ -11,6 +11,7 @@ import signal
 import subprocess
 import sys
 import time
+import unittest.mock
 
 from heglorwy.fleet import marks as fleet_marks
 from heglorwy.fleet import settle as fleet_settle
@@ -226,28 +227,21 @@ class Asked:
 
 def cut_at(number, work):
     """Does a work until its so-many-th change of a file or a name; tells whether it came to that."""
-    names = ["fsync", "replace", "unlink"]
-    kept = {name: getattr(os, name) for name in names}
-    left = [number]
+    left = iter(range(number))
 
-    def cut(name):
-        def call(*words, **more):
-            left[0] -= 1
-            if left[0] < 0:
+    def cut(call):
+        def cut_call(*words, **more):
+            if next(left, None) is None:
                 raise Cut
-            return kept[name](*words, **more)
+            return call(*words, **more)
 
-        return call
+        return cut_call
 
-    for name in names:
-        setattr(os, name, cut(name))
-    try:
-        work()
-    except Cut:
-        return True
-    finally:
-        for name in names:
-            setattr(os, name, kept[name])
+    with unittest.mock.patch.multiple(os, fsync=cut(os.fsync), replace=cut(os.replace), unlink=cut(os.unlink)):
+        try:
+            work()
+        except Cut:
+            return True
     return False
 
 
@@ -262,9 +256,8 @@ def answered_once():
             kept[words] = asked(folder, begun, printed, tariff)
         return kept[words]
 
-    fleet_settle.asked_rest = answer
-    yield kept
-    fleet_settle.asked_rest = asked
+    with unittest.mock.patch.object(fleet_settle, "asked_rest", answer):
+        yield kept
 
 
 def settled_in_pieces(place):

@@ -63,16 +63,12 @@ class Run:
         self.put("a drive", drive)
         self.put("a roll", self.carry_out("".join(drive.splitlines(keepends=True)[:lines])))
 
-    def rest(self, *more, tariff=CITY, opening="an opening", folder="a taxi", drive="a drive", roll="a roll", **streams):
+    def rest(self, more=(), tariff=CITY, opening="an opening", folder="a taxi", drive="a drive", roll="a roll", **streams):
         """What the tool prints, what it says, and its status."""
         words = [self.tool, "--tariff", tariff, "--opening", opening, *more, folder, drive, roll]
         streams = {"stdout": subprocess.PIPE, "stderr": subprocess.PIPE} | streams
         done = subprocess.run(words, cwd=self.top, check=False, **streams)
         return done.stdout or b"", (done.stderr or b"").decode(), done.returncode
-
-
-def nothing(run):
-    pass
 
 
 def other_opening(run):
@@ -92,31 +88,15 @@ def ended_early(lines):
     return prepare
 
 
-def put_back(run):
-    run.put_back(run.content("an opening"))
-
-
 def swapped(run):
     late = run.store()
     run.put_back(run.content("an opening"))
     run.put("an opening", late)
 
 
-def late(run):
-    run.put("an opening", run.store())
-
-
 def spoilt(run):
     """A gate is open before bytes that are no body."""
     run.put("an opening", b"\xa5" + run.store()[511:] + bytes(510))
-
-
-def other_roll(run):
-    run.put("a roll", run.content("a roll").replace(b"3.90", b"3.80"))
-
-
-def said_on_roll(run):
-    run.put("a roll", run.content("a roll") + b"taxi: status 8\n")
 
 
 def late_with_equal_displays(run):
@@ -137,31 +117,33 @@ REFUSED = [
     ("an empty drive", lambda run: run.put("a drive", ""), {}, 1, "no beginning of the drive leaves what the store has"),
     ("a bad line", lambda run: run.put("a drive", TWO + "X\n"), {}, 1, "ends with status 3 BAD DRIVE 18"),
     ("a torn drive", lambda run: run.put("a drive", TWO[:-1]), {}, 1, "ends with status 3 BAD DRIVE 17"),
-    ("another tariff", nothing, {"tariff": SIMPLE}, 1, "ends with status 6 WRONG TARIFF"),
+    ("another tariff", lambda run: None, {"tariff": SIMPLE}, 1, "ends with status 6 WRONG TARIFF"),
     ("no tariff", lambda run: run.put("none", ""), {"tariff": "none"}, 1, "ends with status 6 WRONG TARIFF"),
     ("an empty opening store", lambda run: run.put("an opening", b""), {}, 1, "the opening store is none"),
     ("a torn opening store", lambda run: run.put("an opening", run.store()[:700]), {}, 1, "the opening store is none"),
     ("a spoilt opening store", spoilt, {}, 1, "the opening store is none"),
     ("another taxi's opening store", other_opening, {}, 1, "is of another taxi"),
-    ("an opening store from behind the run", late, {}, 1, "no beginning of what the drive prints"),
+    ("an opening store from behind the run", lambda run: run.put("an opening", run.store()), {}, 1, "no beginning of what the drive prints"),
     ("one from behind the run, with equal displays", late_with_equal_displays, {}, 1, "printed behind the next commit"),
     ("one that is later than the store", swapped, {}, 1, "it is from behind the run"),
-    ("a copy that was put back", put_back, {}, 1, "an older copy was put back"),
+    ("a copy that was put back", lambda run: run.put_back(run.content("an opening")), {}, 1, "an older copy was put back"),
     ("a store that was sealed again", lambda run: run.call("seal", CITY, PARAMS), {}, 1, "sealed again"),
     ("a store that went on", lambda run: run.carry_out(ROAMED), {}, 1, "no beginning of the drive leaves what the store has"),
     ("a torn store", lambda run: run.put_back(run.store()[:2047]), {}, 1, "totals ends with status 8"),
     ("an input that ended early, in a trip", ended_early(4), {}, 1, "no beginning of the drive leaves what the store has"),
     ("an input that ended early, for hire", ended_early(2), {}, 1, "no beginning of the drive leaves what the store has"),
-    ("a roll of another run", other_roll, {}, 1, "no beginning of what the drive prints"),
-    ("a roll with what was said", said_on_roll, {}, 1, "no beginning of what the drive prints"),
+    ("a roll of another run", lambda run: run.put("a roll", run.content("a roll").replace(b"3.90", b"3.80")), {}, 1,
+     "no beginning of what the drive prints"),
+    ("a roll with what was said", lambda run: run.put("a roll", run.content("a roll") + b"taxi: status 8\n"), {}, 1,
+     "no beginning of what the drive prints"),
     ("a roll that goes on, without BYTES", goes_on, {}, 1, "no beginning of what the drive prints"),
-    ("a roll that is shorter than BYTES", nothing, {"more": ["--behind", "9999"]}, 1, "is to have had 9999"),
-    ("BYTES below zero", nothing, {"more": ["--behind", "-5"]}, 2, "BYTES"),
-    ("BYTES that are none", nothing, {"more": ["--behind", "5k"]}, 2, "BYTES"),
+    ("a roll that is shorter than BYTES", lambda run: None, {"more": ["--behind", "9999"]}, 1, "is to have had 9999"),
+    ("BYTES below zero", lambda run: None, {"more": ["--behind", "-5"]}, 2, "BYTES"),
+    ("BYTES that are none", lambda run: None, {"more": ["--behind", "5k"]}, 2, "BYTES"),
     ("no opening store", lambda run: os.remove(run.path("an opening")), {}, 7, "an opening: No such file"),
-    ("no drive", nothing, {"drive": "none"}, 7, "none: No such file"),
-    ("no roll", nothing, {"roll": "none"}, 7, "none: No such file"),
-    ("no folder", nothing, {"folder": "none"}, 7, "taxi.store: No such file"),
+    ("no drive", lambda run: None, {"drive": "none"}, 7, "none: No such file"),
+    ("no roll", lambda run: None, {"roll": "none"}, 7, "none: No such file"),
+    ("no folder", lambda run: None, {"folder": "none"}, 7, "taxi.store: No such file"),
     ("a drive for another NUMBER", lambda run: run.put("a drive", "# LEFT FOR NUMBER 7\n" + TWO), {}, 1, "left for NUMBER 7"),
 ]
 

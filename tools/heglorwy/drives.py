@@ -16,11 +16,6 @@ def second_of(date, minute):
     return int(day.timestamp()) + 60 * minute
 
 
-def pulses_in(kmh, ticks, constant):
-    """The pulses of a time at a speed, rounded down."""
-    return int(kmh * constant * ticks) // 36_000
-
-
 class Drive:
     """The lines of a drive whose clock is read at each second."""
 

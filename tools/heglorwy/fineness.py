@@ -6,7 +6,7 @@ from fractions import Fraction
 from math import ceil
 from typing import NamedTuple
 
-from heglorwy.program import Differs, Refused
+from heglorwy.program import Differs
 
 CONSTANTS = 500, 200_000  # the least and the greatest
 USUAL_PERCENT = Fraction(10)  # from which on bin/taxi warns behind a sealing
@@ -89,14 +89,9 @@ def compare_speeds(found, crossovers):
 
 def crossovers_of(taxi, tariff, params):
     """The lines `CROSSOVER` of `bench`, under a tariff and parameters that are sealed in the program's folder."""
-    for words, texts in (
-        (("seal", "tariff", "params"), {"tariff": tariff, "params": params}),
-        (("bench", "tariff", "drive", "readings"), {"drive": NO_DRIVE, "readings": NO_READINGS}),
-    ):
-        printed, status = taxi.call(*words, **texts)
-        if status:
-            raise Refused(status, f"{words[0]} ends with {status}: {printed.decode().strip()}")
-    return [line for line in printed.decode().splitlines() if line.startswith("CROSSOVER ")]
+    taxi.well("seal", "tariff", "params", tariff=tariff, params=params)
+    printed = taxi.well("bench", "tariff", "drive", "readings", drive=NO_DRIVE, readings=NO_READINGS)
+    return [line for line in printed if line.startswith("CROSSOVER ")]
 
 
 def decimal(number):

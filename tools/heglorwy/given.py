@@ -27,38 +27,33 @@ def ranged(least, most):
     return read
 
 
-def positive(text):
-    """A decimal number above 0."""
+def decimal_of(text, fits, said):
+    """A decimal number that fits."""
     try:
         number = Decimal(text)
     except InvalidOperation:
-        number = Decimal(0)
-    if not number.is_finite() or not 0 < number <= 10**6:
-        raise argparse.ArgumentTypeError(f"{text!r} is no number above 0 and up to 1000000")
+        number = Decimal("NaN")
+    if not number.is_finite() or not fits(number):
+        raise argparse.ArgumentTypeError(f"{text!r} is no number {said}")
     return number
+
+
+def positive(text):
+    """A decimal number above 0."""
+    return decimal_of(text, lambda number: 0 < number <= 10**6, "above 0 and up to 1000000")
 
 
 def percentage(text):
     """A decimal number of 0 to 100, exactly."""
-    try:
-        number = Decimal(text)
-    except InvalidOperation:
-        number = Decimal(-1)
-    if not number.is_finite() or not 0 <= number <= 100:
-        raise argparse.ArgumentTypeError(f"{text!r} is no number of 0 to 100")
-    return Fraction(number)
+    return Fraction(decimal_of(text, lambda number: 0 <= number <= 100, "of 0 to 100"))
 
 
 def minute(text):
     """A minute of the day, from an hour as 22 or a time as 22:30."""
-    hours, colon, minutes = text.partition(":")
-    if (
-        not (hours.isascii() and hours.isdigit() and len(hours) <= 2 and int(hours) < 24)
-        or colon
-        and not (minutes.isascii() and minutes.isdigit() and len(minutes) == 2 and int(minutes) < 60)
-    ):
+    found = re.fullmatch("([01]?[0-9]|2[0-3])(?::([0-5][0-9]))?", text)
+    if not found:
         raise argparse.ArgumentTypeError(f"{text!r} is no hour as 22 and no time as 22:30")
-    return 60 * int(hours) + int(minutes or 0)
+    return 60 * int(found[1]) + int(found[2] or 0)
 
 
 def add_constant(parser):
@@ -93,12 +88,8 @@ def with_constant(text, constant):
 def add_place(parser, as_words=True):
     """Words for a tariff position and a zone, or options."""
     for name in ("position", "zone"):
-        if as_words:
-            parser.add_argument(
-                name, nargs="?", type=ranged(1, 9), default=1, metavar=name.upper(), help=f"the {name} (1)"
-            )
-        else:
-            parser.add_argument(f"--{name}", type=ranged(1, 9), default=1, metavar="N", help=f"the {name} (1)")
+        how = {"nargs": "?", "metavar": name.upper()} if as_words else {"metavar": "N"}
+        parser.add_argument(name if as_words else f"--{name}", type=ranged(1, 9), default=1, help=f"the {name} (1)", **how)
 
 
 date = datetime.date.fromisoformat

@@ -45,9 +45,7 @@ def meter_of(taxi, asked, params=None):
     these parameters."""
     tariff = read(asked.tariff)
     params = params_of(asked) if params is None else params
-    printed, status = taxi.call("seal", "tariff", "params", tariff=tariff, params=params)
-    if status:
-        raise Refused(status, f"the store can't be sealed: {printed.decode().strip()}")
+    taxi.well("seal", "tariff", "params", tariff=tariff, params=params, said="the store can't be sealed")
     return sealed_meter(tariff, params, taxi.call("sealed")[0])
 
 

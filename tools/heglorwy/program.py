@@ -69,6 +69,14 @@ class Scratch:
             pathlib.Path(self.folder.name, name).write_bytes(content)
         return called(self.program, self.folder.name, *words)
 
+    def well(self, *words, said="", **how):
+        """The lines that the program prints, which has to end with 0. What is said if it doesn't may begin otherwise."""
+        printed, status = self.call(*words, **how)
+        lines = printed.decode().splitlines()
+        if status:
+            raise Refused(status, f"{said or f'{words[0]} ends with {status}'}: {(lines or [''])[-1]}")
+        return lines
+
 
 def make_ready(tool, programs):
     """Waits until programs are built, and passes on what they say of it, which `called` doesn't show. Each is called in an

@@ -52,10 +52,8 @@ def rows_of(tariff):
 
 def tables_of(taxi, text, constant):
     """The tables of a sound tariff; what was read of its lines is compared with them."""
-    printed, status = taxi.call("tables", "tariff", str(constant), tariff=text)
-    if status:
-        raise Refused(status, f"the tariff is refused: {(printed.decode().splitlines() or [''])[-1]}")
-    rows = [line.split(" ") for line in printed.decode().splitlines()]
+    printed = taxi.well("tables", "tariff", str(constant), tariff=text, said="the tariff is refused")
+    rows = [line.split(" ") for line in printed]
     tariff = read_tariff(taxi, text)
     rates = [tuple(map(int, row[2:])) for row in rows if row[0] == "RATE"]
     cells = [tuple(map(int, row[2:])) for row in rows if row[0] == "CELL"]

@@ -3,7 +3,7 @@
 import re
 from typing import NamedTuple
 
-from heglorwy.program import Differs, Refused
+from heglorwy.program import Differs
 from heglorwy.tariff_kinds import DAYS, KINDS
 
 TOKENS = re.compile(r"\.\.|[a-z]+|[0-9](?:[0-9:-]|\.(?=[0-9]))*|[(),]")
@@ -134,10 +134,7 @@ def is_filled(line):
 
 def read_tariff(taxi, text):
     """The tariff that a text says, each line with its number in the text. The text may be one that isn't sound."""
-    printed, status = taxi.call("form", text=text)
-    lines = printed.decode().splitlines()
-    if status:
-        raise Refused(status, f"the tariff is refused: {(lines or [''])[-1]}")
+    lines = taxi.well("form", text=text, said="the tariff is refused")
     # The first line of the form says the decimals, also where the text doesn't.
     numbers = [number for number, line in enumerate(lines_in(text), 1) if is_filled(line)]
     numbers = [0] * (len(lines) - len(numbers)) + numbers

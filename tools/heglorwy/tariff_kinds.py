@@ -14,16 +14,8 @@ class Kind(NamedTuple):
     is_on_receipts: bool = False  # a line of a receipt tells its amount, if it isn't 0
 
 
-def step(line):
-    return {"amount": line.money(), "rounding": line.take()}
-
-
 def counted(line):
     return {"number": line.number()}
-
-
-def holiday(line):
-    return {"date": line.date()}
 
 
 def supplement(line):
@@ -45,16 +37,13 @@ def rate(line):
     return {"a": a, "b": b, "c": c, "e": e}
 
 
-def amount_alone(line):
-    return {"amount": line.money()}
-
-
 KINDS = {
-    "step": Kind(step, ("amount",)), "positions": Kind(counted), "zones": Kind(counted), "holiday": Kind(holiday),
+    "step": Kind(lambda line: {"amount": line.money(), "rounding": line.take()}, ("amount",)),
+    "positions": Kind(counted), "zones": Kind(counted), "holiday": Kind(lambda line: {"date": line.date()}),
     "supplement": Kind(supplement, ("amount",)),
     "initial": Kind(initial, ("amount", "covers"), row=("INITIAL", "amount", "covers")),
     "rate": Kind(rate, ("a", "c"), measures=("b", "e")),
-    "minimum": Kind(amount_alone, ("amount",), row=("MINIMUM", "amount"), is_on_receipts=True),
+    "minimum": Kind(lambda line: {"amount": line.money()}, ("amount",), row=("MINIMUM", "amount"), is_on_receipts=True),
 }
 # The kinds of which a cell has a line, in the order of its columns.
 IN_CELLS = ["rate", "initial", "minimum"]

@@ -4,11 +4,11 @@ columns that it doesn't have."""
 import csv
 import pathlib
 import re
-import subprocess
 import tempfile
 from typing import NamedTuple
 
-TOP = pathlib.Path(__file__).resolve().parents[3]
+from heglorwy.program import called
+
 NOT_PERMITTED, WITHIN, REFUSAL, NOTHING = "not permitted", "within what is permitted", "by a refusal", "nothing"
 
 
@@ -43,9 +43,8 @@ class Meters:
         (self.place / name).write_text(text)
 
     def taxi(self, *words, folder=""):
-        command = [TOP / "bin/taxi", *words]
-        done = subprocess.run(command, cwd=self.place / folder, capture_output=True, text=True, check=False)
-        return done.stdout, done.returncode
+        printed, status = called("taxi", self.place / folder, *words)
+        return printed.decode(), status
 
     def call(self, command, *more, **texts):
         """What a command prints of texts, and its status."""

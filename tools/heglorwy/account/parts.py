@@ -8,6 +8,7 @@ from fractions import Fraction
 from typing import NamedTuple
 
 from heglorwy.explained import local
+from heglorwy.meter import first_in
 from heglorwy.tables import text_of
 from heglorwy.tariff_parts import of_kind
 
@@ -64,29 +65,21 @@ def name_of(number, text, tables):
     return f"supplement {number}" + (f", {comment}" if comment else "")
 
 
-class Told:
-    """What `explain` says of a hiring, by its words."""
-
-    def __init__(self, lines):
-        self.lines = lines
-
-    def one(self, word):
-        return next((line[1:] for line in self.lines if line[0] == word), None)
-
-    def all(self, word):
-        return [line[1:] for line in self.lines if line[0] == word]
+def all_in(hiring, name):
+    """The words of each line of a hiring that begins so."""
+    return [words[1:] for words in hiring if words[0] == name]
 
 
 def head_of(told, meter, asked, number, receipt):
-    way, _, time, _ = told.one("DISTANCE")
+    way, _, time, _ = first_in(told, "DISTANCE")
     return [
         ("Taxi", meter.taxi), ("Constant", f"{meter.constant} pulses a kilometre"), ("Mode", MODES[meter.mode]),
         ("Secured", meter.secured), ("Tariff", asked.tariff.name),
         ("Its SHA-256", hashlib.sha256(meter.tariff).hexdigest()),
         *([("Receipt", f"{receipt['receipt']} of {receipt['roll'].name}")] if receipt else []),
         ("Drive", f"{asked.drive.name}, hiring {number} of those that it closes"),
-        ("Start", " ".join(told.one("START"))),
-        ("Finish", f"{' '.join(told.one('FINISH'))}: {ENDS[told.one('HIRING')[1]]}"),
+        ("Start", " ".join(first_in(told, "START"))),
+        ("Finish", f"{' '.join(first_in(told, 'FINISH'))}: {ENDS[first_in(told, 'HIRING')[1]]}"),
         ("Distance", f"{metres(way)} ({way} m)"), ("Time counted", f"{seconds(time)} ({time} s)"),
     ]
 
@@ -135,19 +128,19 @@ def groups_of(told, tables, meter, unit):
     """What each line charged, in the order of the text, and what was free."""
     rates = {line.number: line for line in of_kind(tables.lines, "rate")}
     groups = {}
-    for number, way, long, _, time, _, _, units in told.all("RATE"):
+    for number, way, long, _, time, _, _, units in all_in(told, "RATE"):
         money = Fraction(int(units), unit)
         row = way_of(way, rates[int(number)].parts), metres(long), seconds(time), rounded(money, tables.decimals + 1), exactly(money)
         groups.setdefault(f"line {number}: {text_of(meter.tariff, rates[int(number)])}", []).append(row)
-    free = [("stopped", metres(long), seconds(time), "free", "0") for long, _, time, _ in told.all("STOPPED")]
-    free += [("in intervals that a loss of supply cut short", metres(long), "", "free", "0") for long, _ in told.all("DROPPED")]
+    free = [("stopped", metres(long), seconds(time), "free", "0") for long, _, time, _ in all_in(told, "STOPPED")]
+    free += [("in intervals that a loss of supply cut short", metres(long), "", "free", "0") for long, _ in all_in(told, "DROPPED")]
     return [*groups.items(), *([("not charged", free)] if free else [])]
 
 
 def sums_of(told, tables, unit):
     """The sum of what was charged, rounded and exact."""
-    parts = [Fraction(int(words[-1]), unit) for words in told.all("RATE")]
-    whole, more = Fraction(int(told.one("CHARGED")[1]), unit), tables.decimals + 1
+    parts = [Fraction(int(words[-1]), unit) for words in all_in(told, "RATE")]
+    whole, more = Fraction(int(first_in(told, "CHARGED")[1]), unit), tables.decimals + 1
     if not parts:
         return ["Nothing was charged for distance and time."]
     if len(parts) == 1:
@@ -170,9 +163,9 @@ def fare_of(told, tables, meter, unit):
     """How the fare is made: the fee and what it covers, the steps, the minimum, the supplements, the total."""
     more, step = tables.decimals + 1, of_kind(tables.lines, "step")[0].parts
     numbers = {line.number: text_of(meter.tariff, line) for line in tables.lines}
-    charged = Fraction(int(told.one("CHARGED")[1]), unit)
-    line, fee, covers = told.one("FEE")
-    initial, _, steps, _, amount = told.one("CALC")
+    charged = Fraction(int(first_in(told, "CHARGED")[1]), unit)
+    line, fee, covers = first_in(told, "FEE")
+    initial, _, steps, _, amount = first_in(told, "CALC")
     above = max(Fraction(0), charged - Fraction(covers))
     yield f"hire fee, line {line}: {numbers[int(line)]}", fee
     yield (f"it covers the first {covers}: {rounded(charged, more)} - {covers} = {rounded(above, more)} is above it" if above
@@ -181,21 +174,20 @@ def fare_of(told, tables, meter, unit):
         said = steps_said(above, Fraction(amount), steps, step["rounding"])
         yield f"{rounded(above, more)} / {amount}, a display step, is {said}", ""
     yield "hire fee and display steps", f"{initial} + {steps} x {amount}"
-    if minimum := told.one("MINIMUM"):
+    if minimum := first_in(told, "MINIMUM"):
         yield f"minimum fare, line {minimum[0]}: {numbers[int(minimum[0])]}", f"at least {minimum[1]}"
-    if Fraction(initial) + int(steps) * Fraction(amount) > Fraction(told.one("FARE")[0]):
+    if Fraction(initial) + int(steps) * Fraction(amount) > Fraction(first_in(told, "FARE")[0]):
         yield "no fare is more than the display has room for", ""
-    yield "FARE", told.one("FARE")[0]
-    for number, count, _, each in told.all("SUPPLEMENT"):
+    yield "FARE", first_in(told, "FARE")[0]
+    for number, count, _, each in all_in(told, "SUPPLEMENT"):
         yield name_of(int(number), meter.tariff, tables), f"{count} x {each}"
-    yield "SUPPLEMENTS", told.one("SUPPLEMENTS")[0]
-    yield f"TOTAL, {told.one('FARE')[0]} + {told.one('SUPPLEMENTS')[0]}", told.one("TOTAL")[0]
+    yield "SUPPLEMENTS", first_in(told, "SUPPLEMENTS")[0]
+    yield f"TOTAL, {first_in(told, 'FARE')[0]} + {first_in(told, 'SUPPLEMENTS')[0]}", first_in(told, "TOTAL")[0]
 
 
-def account_of(number, trip, lines, tables, meter, asked, receipt):
+def account_of(number, trip, told, tables, meter, asked, receipt):
     """The account of a hiring, by its trip and what `explain` says of it."""
-    told = Told(lines)
-    unit = int(told.one("CHARGED")[3]) * 10**tables.decimals
-    title = f"The fare of taxi {meter.taxi} on {told.one('START')[0]}: {told.one('TOTAL')[0]}"
+    unit = int(first_in(told, "CHARGED")[3]) * 10**tables.decimals
+    title = f"The fare of taxi {meter.taxi} on {first_in(told, 'START')[0]}: {first_in(told, 'TOTAL')[0]}"
     return Account(title, head_of(told, meter, asked, number, receipt), story_of(trip, tables, meter),
                    groups_of(told, tables, meter, unit), sums_of(told, tables, unit), list(fare_of(told, tables, meter, unit)))

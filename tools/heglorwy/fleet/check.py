@@ -6,7 +6,7 @@ from decimal import Decimal
 
 from heglorwy.filed import filed_in
 from heglorwy.fleet.marks import BEGUN, DONE, OPENING_TOTALS, ROLL, is_at_work, last_done
-from heglorwy.fleet.stores import Unread, asked_of, sealed_in, totals_in
+from heglorwy.fleet.stores import asked_of, sealed_in, there, totals_in
 from heglorwy.program import Differs, Refused, read
 from heglorwy.roll_order import disorder_in
 
@@ -118,8 +118,7 @@ def row_of_check(folder, asked, broke_off):
 
 def checked(folder, asked):
     """The row of a taxi. Where a run came meanwhile nothing else is told."""
-    if not os.path.isdir(folder):
-        raise Unread("none", "there is no such folder")
+    there(folder)
     before = marks_in(folder)
     row = AT_WORK if is_at_work(folder) else row_of_check(folder, asked, before[0] is not None)
     return AT_WORK if is_at_work(folder) or marks_in(folder) != before else row

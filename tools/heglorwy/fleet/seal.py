@@ -7,7 +7,7 @@ import datetime
 import pathlib
 
 from heglorwy.fleet.marks import BEGUN, DONE, ROLL, STORE, AtWork, alone_in
-from heglorwy.fleet.stores import Unread, asked_of, image_of, text_of, words_in
+from heglorwy.fleet.stores import Unread, asked_of, image_of, text_of, there, words_in
 from heglorwy.program import Differs, Scratch, called, read
 
 CHANGED = ["seal", "changes"]
@@ -101,9 +101,7 @@ def sealed_row(folder, asked):
 
 def seal(name, asked):
     """The row of a taxi; `refused` where the store was left as it was for a reason of this tool's own."""
-    folder = pathlib.Path(name).absolute()
-    if not folder.is_dir():
-        raise Unread("none", "there is no such folder")
+    folder = there(name)
     try:
         with alone_in(folder):
             if (folder / BEGUN).exists():

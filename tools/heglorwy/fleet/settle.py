@@ -4,7 +4,6 @@ the drive down as broken, and takes the mark away.
 Each step is on the medium before the next one, and a settling that is cut can be begun anew: how long the roll was at
 the first one is kept in the mark, and receipts that were not printed whole are put behind that length."""
 
-import pathlib
 import re
 import subprocess
 import tempfile
@@ -13,7 +12,7 @@ from heglorwy.fleet.marks import (
     BEGUN, LEFT, OPENING_STORE, ROLL, AtWork, Done, Unknown, alone_in, append_synced, begun_in, ended_before,
     replace_synced, sha256_of, take_away, write_begun, write_done,
 )
-from heglorwy.fleet.stores import Unread, asked_of, totals_in
+from heglorwy.fleet.stores import asked_of, there, totals_in
 from heglorwy.program import TOP, Refused, read
 
 SETTLED = ["number", "hirings", "carried_out", "whole", "torn", "missing", "left"]
@@ -131,9 +130,7 @@ def settled(folder, begun, asked):
 
 def settle(name, asked):
     """The row of a taxi whose run broke off; with a status other than 0 the mark stays."""
-    folder = pathlib.Path(name).absolute()
-    if not folder.is_dir():
-        raise Unread("none", "there is no such folder")
+    folder = there(name)
     try:
         with alone_in(folder):
             begun = begun_in(folder)

@@ -30,10 +30,16 @@ def words_in(text):
     return [line.split(" ") for line in text.decode().splitlines()]
 
 
+def there(name):
+    """The whole path of a folder, which has to be there."""
+    if not os.path.isdir(name):
+        raise Unread("none", "there is no such folder")
+    return pathlib.Path(name).absolute()
+
+
 def asked_of(folder, command):
     """What a command prints of the store in a folder."""
-    if not os.path.isdir(folder):
-        raise Unread("none", "there is no such folder")
+    there(folder)
     try:
         return text_of(called("taxi", folder, command))
     except OSError as error:

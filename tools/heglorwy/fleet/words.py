@@ -17,52 +17,33 @@ WHAT = {
 }
 
 
-def add_options_of_check(command):
-    day = {"type": datetime.date.fromisoformat, "metavar": "DATE"}
-    command.add_argument("--tariff", metavar="FILE", help="the tariff that will be used; another one is a finding")
-    command.add_argument("--secured", **day, help="secured before this day is a finding")
-    command.add_argument("--today", **day, default=datetime.date.today(), help="the day by which dates are judged")
-
-
-def add_options_of_run(command):
-    command.add_argument(
-        "--tariff", metavar="FILE", required=True, help="the tariff, by a whole name or as it is called in each folder"
-    )
-    command.add_argument(
-        "--drive", default="drive", metavar="NAME", help="what the drive is called in each folder (drive)"
-    )
-    command.add_argument(
-        "--machines",
-        metavar="FILE",
-        help="an object of JSON that has for folders the machine on which each lies; ssh goes there. A folder that it "
-        "doesn't name lies here",
-    )
-    command.add_argument("--ssh", metavar="FILE", help="ssh's settings for these machines, in place of your own")
-    command.add_argument(
-        "--there", default=str(TOP / "tools/fleet"), metavar="PATH",
-        help="where this tool lies on those machines (the same place as here)",
-    )
-
-
-def add_options_of_settle(command):
-    command.add_argument("--tariff", metavar="FILE", help="the tariff of the run, where it has gone from its place")
-    command.add_argument(
-        "--without-rest", action="store_true",
-        help="settles also where it can't be told what is left of the drive; the drive is refused from then on",
-    )
-
-
-def add_options_of_seal(command):
-    command.add_argument("--tariff", metavar="FILE", required=True, help="the tariff with which each store is sealed")
-    command.add_argument(
-        "--params", metavar="NAME", help="what the parameters are called in each folder; without it they stay as sealed"
-    )
-    command.add_argument("--dry-run", action="store_true", help="says what would change, and seals nothing")
-
-
+DAY = {"type": datetime.date.fromisoformat, "metavar": "DATE"}
 OPTIONS = {
-    "check": add_options_of_check, "run": add_options_of_run, "settle": add_options_of_settle,
-    "seal": add_options_of_seal,
+    "check": {
+        "--tariff": {"metavar": "FILE", "help": "the tariff that will be used; another one is a finding"},
+        "--secured": {**DAY, "help": "secured before this day is a finding"},
+        "--today": {**DAY, "default": datetime.date.today(), "help": "the day by which dates are judged"},
+    },
+    "run": {
+        "--tariff": {"metavar": "FILE", "required": True,
+                     "help": "the tariff, by a whole name or as it is called in each folder"},
+        "--drive": {"default": "drive", "metavar": "NAME", "help": "what the drive is called in each folder (drive)"},
+        "--machines": {"metavar": "FILE", "help": "an object of JSON that has for folders the machine on which each lies; ssh "
+                       "goes there. A folder that it doesn't name lies here"},
+        "--ssh": {"metavar": "FILE", "help": "ssh's settings for these machines, in place of your own"},
+        "--there": {"default": str(TOP / "tools/fleet"), "metavar": "PATH",
+                    "help": "where this tool lies on those machines (the same place as here)"},
+    },
+    "settle": {
+        "--tariff": {"metavar": "FILE", "help": "the tariff of the run, where it has gone from its place"},
+        "--without-rest": {"action": "store_true", "help": "settles also where it can't be told what is left of the drive; "
+                           "the drive is refused from then on"},
+    },
+    "seal": {
+        "--tariff": {"metavar": "FILE", "required": True, "help": "the tariff with which each store is sealed"},
+        "--params": {"metavar": "NAME", "help": "what the parameters are called in each folder; without it they stay as sealed"},
+        "--dry-run": {"action": "store_true", "help": "says what would change, and seals nothing"},
+    },
 }
 
 
@@ -73,6 +54,7 @@ def arguments(what):
     commands = parser.add_subparsers(dest="command", required=True, metavar="COMMAND")
     for name, does in WHAT.items():
         command = commands.add_parser(name, help=does, description=f"{name}: {does}.", **form)
-        OPTIONS.get(name, lambda command: None)(command)
+        for option, how in OPTIONS.get(name, {}).items():
+            command.add_argument(option, **how)
         command.add_argument("folders", nargs="+", metavar="FOLDER")
     return parser.parse_args()

@@ -2,6 +2,7 @@
 has begun the next step and that of the other hasn't."""
 
 from heglorwy.officer.hirings import Leg
+from heglorwy.officer.turns import step_of
 
 MOST = 6000  # intervals that a hiring is driven on
 PART = 2  # the last interval has at least this part of the pulses
@@ -39,13 +40,9 @@ class Ends:
         """How many more intervals bring a sum of charges beside the border of a display step."""
         if each <= 0:
             return
-        full = self.step * told.unit
+        full = step_of(self.program.tariff) * told.unit
         above = told.charged - told.cover * told.unit
         left = -above if above < 0 else -above % full
         for border in (left, left + full, left + 2 * full):
             count = border // each
             yield from (number for number in range(count - 1, count + 3) if 0 <= number <= MOST)
-
-    @property
-    def step(self):
-        return next(line for line in self.program.tariff.lines if line.kind == "step").parts["amount"]

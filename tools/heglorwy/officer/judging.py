@@ -218,13 +218,10 @@ def judged(asked, content=None):
                 compare_verdicts(bench, drive, wanted, here, found)
             hirings += found
         hirings += [too_many(count + at, reading) for at, reading in enumerate(more, 1)]
-        found = finenesses(bench.rates, constant_in(bench.well("sealed")))
+        constant = int(re.search(r"^constant (\d+)$", bench.well("sealed"), re.MULTILINE)[1])
+        found = finenesses(bench.rates, constant)
         compare_speeds(found, bench.crossovers)
         return judged_of(bench, hirings, drives, found, readings)
-
-
-def constant_in(sealed):
-    return int(re.search(r"^constant (\d+)$", sealed, re.MULTILINE)[1])
 
 
 def hirings_of(bench, drive, expected, readings, before):

@@ -132,14 +132,10 @@ class Kit:
             self.matrix.add(hiring._replace(second=moved))
 
 
-def asked_for(words):
-    return Asked(words.fastest, words.longest * MINUTES, words.bench, words.days, words.expiry)
-
-
 def drives(words):
     """Writes the drives and their list into a new folder; gives the list."""
     with Scratch("taxi") as taxi:
-        kit = Kit(Program(taxi, words), asked_for(words))
+        kit = Kit(Program(taxi, words), Asked(words.fastest, words.longest * MINUTES, words.bench, words.days, words.expiry))
         made = listing(kit, kit.make())
     write(words.folder, made)
     return made.text, 0

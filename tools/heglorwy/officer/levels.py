@@ -10,17 +10,14 @@ def most(name, expected, step):
     return max(least, expected // per)
 
 
-def is_permitted(name, expected, shown, step):
-    return abs(shown - expected) <= most(name, expected, step)
-
-
 def level(right, wrong, step):
     """The level at which what a wrong meter shows of a hiring differs from what the right one shows. How it ended, its
     supplements, position, zone and refusals are compared exactly, as the readings do."""
     if (right.kind, right.supplements) != (wrong.kind, wrong.supplements):
         return NOT_PERMITTED
-    if not all(is_permitted(name, getattr(right, name), getattr(wrong, name), step) for name in ("fare", "distance")):
-        return NOT_PERMITTED
+    for name, expected, shown in (("fare", right.fare, wrong.fare), ("distance", right.distance, wrong.distance)):
+        if abs(shown - expected) > most(name, expected, step):
+            return NOT_PERMITTED
     if (right.fare, right.distance) != (wrong.fare, wrong.distance):
         return NOT_EQUAL
     return BY_REFUSAL if right != wrong else NOT_TOLD

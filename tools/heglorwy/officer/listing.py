@@ -105,14 +105,10 @@ class Lister:
                 self.untold.append((title, reason or "no fare shows it"))
                 continue
             at = next(at for at in self.places if row[at] == best)
-            self.purposes[self.kit.matrix.hirings[at]].append(f"{title} ({self.said(title, best)})")
+            self.purposes[self.kit.matrix.hirings[at]].append(f"{title} ({SAID[best]})")
             turn = self.kit.matrix.cases[title].turn
             if turn and best < turn.wanted and best != SHORT_OF_STEPS:
                 self.weaker.append((title, best))
-
-    def said(self, title, level):
-        """A level in words; of a rate whose band is short, by how many steps."""
-        return SAID[level]
 
     def needs_clock(self, hiring):
         """Whether the clock has to be set: not where the hiring is charged the same at each moment."""

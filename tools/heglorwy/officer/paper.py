@@ -163,7 +163,8 @@ def verified(judged):
 def by_what(judged, has_readings):
     """By what it was verified."""
     pairs = [(name, grouped_last(value)) for name, value in judged.version]
-    pairs.append(("Drives", f"{len(judged.drives)}, with {hirings_driven(judged)} hirings; their digests stand below"))
+    driven = sum(bool(hiring.drive) for hiring in judged.hirings)
+    pairs.append(("Drives", f"{len(judged.drives)}, with {driven} hirings; their digests stand below"))
     if has_readings:
         pairs += [("Readings, SHA-256", grouped(judged.readings.digest)), ("Read", judged.readings.how)]
     return Facts("By what", pairs)
@@ -173,10 +174,6 @@ def grouped_last(value):
     """A text with its last word in groups where that is a digest."""
     before, _, last = value.rpartition(" ")
     return f"{before} {grouped(last)}".strip() if len(last) == 64 else value
-
-
-def hirings_driven(judged):
-    return sum(bool(hiring.drive) for hiring in judged.hirings)
 
 
 def crossovers(judged, percent):

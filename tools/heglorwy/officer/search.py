@@ -208,7 +208,7 @@ class Search:
         """A hiring that ends where the difference of less than a step fills one."""
         hirings = [base._replace(second=base.second + LATE).on(leg) for leg in self.both(BASES)]
         rights, wrongs = self.program.explained(self.meter.tariff, hirings), self.program.explained(text, hirings)
-        apart = [entry for entry in zip(hirings, rights, wrongs) if charged_apart(*entry[1:])]
+        apart = [entry for entry in zip(hirings, rights, wrongs) if entry[1].charged * entry[2].unit != entry[2].charged * entry[1].unit]
         for hiring, right, wrong in apart:
             if found := self.ends.tuned(text, hiring, right, wrong):
                 return Found(NOT_EQUAL, found)
@@ -249,7 +249,3 @@ def masks_of(lines):
     minutes = sorted({0, *(minute for atom in atoms_in(lines) if atom[0] == "minute" for minute in atom[1:])})
     if len(minutes) > 1:
         yield from (("minute", first, last) for first, last in zip(minutes, [*minutes[1:], 0]))
-
-
-def charged_apart(right, wrong):
-    return right.charged * wrong.unit != wrong.charged * right.unit

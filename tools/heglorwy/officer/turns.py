@@ -40,6 +40,16 @@ def replaced(lines, at, *new):
     return lines[:at] + list(new) + lines[at + 1 :]
 
 
+def turned(tariff, at, said, *new, **more):
+    """A turn of the line at a place: what is wrong with it, and the lines that stand there."""
+    return Turn(f"line {tariff.lines[at].number}: {said}", replaced(tariff.lines, at, *new), **more)
+
+
+def lines_of(tariff, *kinds):
+    """The lines of some kinds, each with its place."""
+    return [(at, line) for at, line in enumerate(tariff.lines) if line.kind in kinds]
+
+
 def with_parts(line, **parts):
     return line._replace(parts={**line.parts, **parts})
 
@@ -89,9 +99,8 @@ def atom_turns(tariff):
     for at, line in enumerate(tariff.lines):
         for path, atom in atoms(line.when) if line.when else ():
             for word, new in (("always", SURE), ("never", NEVER)):
-                turned = line._replace(when=put(line.when, path, new))
-                title = f"line {line.number}: `{wording.condition(atom)}` {word} holds"
-                yield Turn(title, replaced(tariff.lines, at, turned))
+                said = f"`{wording.condition(atom)}` {word} holds"
+                yield turned(tariff, at, said, line._replace(when=put(line.when, path, new)))
 
 
 def borders(atom):
@@ -128,27 +137,21 @@ def a_border_turn(tariff, at, path, atom, border, ways):
     new = moved(atom, end, ways[0]) if ways else None
     if new is None:
         return
-    title = f"line {line.number}: `{wording.condition(atom)}` {name} {by_how_much(atom[0], ways[0])}"
-    lines = replaced(tariff.lines, at, line._replace(when=put(line.when, path, new)))
-    yield Turn(
-        title, lines, further=lambda: next(a_border_turn(tariff, at, path, atom, border, ways[1:]), None),
+    yield turned(
+        tariff, at, f"`{wording.condition(atom)}` {name} {by_how_much(atom[0], ways[0])}",
+        line._replace(when=put(line.when, path, new)),
+        further=lambda: next(a_border_turn(tariff, at, path, atom, border, ways[1:]), None),
         is_within=atom[0] in ("distance", "time of trip") and abs(ways[0]) <= WITHIN,
     )
-
-
-def conditional(tariff, kind):
-    return [at for at, line in enumerate(tariff.lines) if line.kind == kind and line.when]
 
 
 def line_turns(tariff):
     """Each line lost, and each moved behind and before each other one of its kind."""
     for kind in IN_CELLS:
-        places = conditional(tariff, kind)
-        for number, at in enumerate(places):
-            line = tariff.lines[at]
-            yield Turn(f"line {line.number}: lost", replaced(tariff.lines, at))
-            for other in places[number + 1 :]:
-                last = tariff.lines[other]
+        conditional = [(at, line) for at, line in lines_of(tariff, kind) if line.when]
+        for number, (at, line) in enumerate(conditional, 1):
+            yield turned(tariff, at, "lost")
+            for other, last in conditional[number:]:
                 between = tariff.lines[at + 1 : other]
                 lines = among(tariff, at, other, [*between, last, line])
                 yield Turn(f"line {line.number}: moved behind line {last.number}", lines)
@@ -165,29 +168,23 @@ def among(tariff, first, last, lines):
 def holiday_turns(tariff):
     """Each holiday lost, a day off, and a year later, as in a list of another year."""
     known = {line.parts["date"] for line in of_kind(tariff.lines, "holiday")}
-    for at, line in enumerate(tariff.lines):
-        if line.kind != "holiday":
-            continue
-        yield Turn(f"line {line.number}: no holiday", replaced(tariff.lines, at))
+    for at, line in lines_of(tariff, "holiday"):
+        yield turned(tariff, at, "no holiday")
         for by, way in ((-1, "a day earlier"), (1, "a day later"), (365, "a year later")):
             day = datetime.date(*line.parts["date"]) + datetime.timedelta(days=by)
             date = (day.year, day.month, day.day)
             if date not in known and 2000 <= day.year <= 2199:
-                new = with_parts(line, date=date)
-                yield Turn(f"line {line.number}: the holiday is {way}", replaced(tariff.lines, at, new))
+                yield turned(tariff, at, f"the holiday is {way}", with_parts(line, date=date))
 
 
 def rate_turns(tariff):
     """Each measure 2 % and a unit off, and each amount of 0 that isn't."""
     step = step_of(tariff)
-    for at, line in enumerate(tariff.lines):
-        if line.kind != "rate":
-            continue
+    for at, line in lines_of(tariff, "rate"):
         for amount, measure, name in (("a", "b", "distance"), ("c", "e", "time")):
             value, free = line.parts[measure], line.parts[amount] == 0
             if free:
-                lines = replaced(tariff.lines, at, with_parts(line, **{amount: step}))
-                yield Turn(f"line {line.number}: {name} isn't free", lines)
+                yield turned(tariff, at, f"{name} isn't free", with_parts(line, **{amount: step}))
                 continue
             longer, shorter = max(value + 1, -(-value * 102 // 100)), min(value - 1, value * 100 // 102)
             for new, what, large in (
@@ -195,9 +192,9 @@ def rate_turns(tariff):
                 (value - 1, "a unit shorter", False),
             ):
                 if new > 0:
-                    lines = replaced(tariff.lines, at, with_parts(line, **{measure: new}))
-                    title = f"line {line.number}: {name} {what}"
-                    yield Turn(title, lines, NOT_PERMITTED if large else NOT_EQUAL, (line.number, name))
+                    wanted = NOT_PERMITTED if large else NOT_EQUAL
+                    made = with_parts(line, **{measure: new})
+                    yield turned(tariff, at, f"{name} {what}", made, wanted=wanted, rate=(line.number, name))
 
 
 def step_of(tariff):
@@ -215,39 +212,33 @@ def amount_turns(tariff):
             for by in (1, 2, -1, -2):
                 new = line.parts[part] + by * step
                 if new >= 0:
-                    turned = with_parts(line, **{part: new})
                     much = f"{abs(by)} step{'s' * (abs(by) > 1)} {'more' if by > 0 else 'less'}"
-                    title = f"line {line.number}: the {name} is {much}"
-                    yield Turn(title, replaced(tariff.lines, at, turned), NOT_EQUAL if abs(by) == 1 else NOT_PERMITTED)
+                    wanted = NOT_EQUAL if abs(by) == 1 else NOT_PERMITTED
+                    yield turned(tariff, at, f"the {name} is {much}", with_parts(line, **{part: new}), wanted=wanted)
 
 
 def supplement_turns(tariff):
     """Each supplement lost, of another amount, and taken once more or less often."""
-    for at, line in enumerate(tariff.lines):
-        if line.kind != "supplement":
-            continue
-        yield Turn(f"line {line.number}: no such supplement", replaced(tariff.lines, at))
+    for at, line in lines_of(tariff, "supplement"):
+        yield turned(tariff, at, "no such supplement")
         for part, by, name in (
             ("amount", 1, "a unit dearer"), ("amount", -1, "a unit cheaper"), ("most", 1, "once more than max"),
             ("most", -1, "once less than max"),
         ):
             new = line.parts[part] + by
             if (0 <= new) if part == "amount" else (0 < new < 100):
-                yield Turn(f"line {line.number}: {name}", replaced(tariff.lines, at, with_parts(line, **{part: new})))
+                yield turned(tariff, at, name, with_parts(line, **{part: new}))
 
 
 def count_turns(tariff):
     """The display step, its rounding, and how many positions and zones there are."""
-    for at, line in enumerate(tariff.lines):
-        said = f"line {line.number}: "
-        if line.kind == "step":
-            other = "behind" if line.parts["rounding"] == "ahead" else "ahead"
-            yield Turn(f"{said}`{other}`", replaced(tariff.lines, at, with_parts(line, rounding=other)), NOT_EQUAL)
-            amount = line.parts["amount"]
-            for new, name in ((2 * amount, "twice"), (amount // 2, "half")):
-                if new and (name == "twice" or amount % 2 == 0):
-                    turned = with_parts(line, amount=new)
-                    yield Turn(f"{said}{name} the display step", replaced(tariff.lines, at, turned), NOT_EQUAL)
+    for at, line in lines_of(tariff, "step"):
+        other = "behind" if line.parts["rounding"] == "ahead" else "ahead"
+        yield turned(tariff, at, f"`{other}`", with_parts(line, rounding=other), wanted=NOT_EQUAL)
+        amount = line.parts["amount"]
+        for new, name in ((2 * amount, "twice"), (amount // 2, "half")):
+            if new and (name == "twice" or amount % 2 == 0):
+                yield turned(tariff, at, f"{name} the display step", with_parts(line, amount=new), wanted=NOT_EQUAL)
     for kind in ("positions", "zones"):
         for by, name in ((1, "one more"), (-1, "one less")):
             number = number_of(tariff.lines, kind) + by
@@ -278,18 +269,14 @@ def places_of(tariff, with_days):
 def place_turns(tariff, with_days):
     """Each line lacking or gaining a position and zone, or a weekday; a line without a condition is dearer there."""
     for kind in IN_CELLS:
-        for at, line in enumerate(tariff.lines):
-            if line.kind != kind:
-                continue
+        for at, line in lines_of(tariff, kind):
             for place in places_of(tariff, with_days):
                 where = f"in `{wording.condition(place)}`"
                 if line.when is None:
-                    turned = [dearer(line, tariff)._replace(when=place), line]
-                    yield Turn(f"line {line.number}: dearer {where}", replaced(tariff.lines, at, *turned))
+                    yield turned(tariff, at, f"dearer {where}", dearer(line, tariff)._replace(when=place), line)
                     continue
                 for title, when in (("not", ("and", line.when, ("not", place))), ("also", ("or", line.when, place))):
-                    lines = replaced(tariff.lines, at, line._replace(when=when))
-                    yield Turn(f"line {line.number}: {title} {where}", lines)
+                    yield turned(tariff, at, f"{title} {where}", line._replace(when=when))
 
 
 def dearer(line, tariff):

@@ -2,11 +2,12 @@
 
 import textwrap
 
+from matplotlib.figure import Figure
 from matplotlib.lines import Line2D
 from matplotlib.ticker import MaxNLocator
 
 from heglorwy.drives import MARK, MARKED, hired, second_of
-from heglorwy.picture.style import DASHES, LINES, MARKERS, axes_in, new_figure, svg_of
+from heglorwy.picture.style import DASHES, LINES, MARKERS, axes_in, svg_of
 from heglorwy.program import Differs, Refused
 from heglorwy.tables import need_place, tables_of
 
@@ -33,11 +34,8 @@ def marked_drive(minute, asked):
 def fares_at(taxi, text, minute, asked):
     """The steps of the fare: the distance in kilometres at which each was first seen, and what was shown from there on."""
     drive, marks = marked_drive(minute, asked)
-    printed, status = taxi.call("fare", "tariff", "drive", str(asked.constant), tariff=text, drive=drive.text())
-    if status:
-        raise Refused(status, f"the program ends with {status}: {printed.decode().strip().splitlines()[-1]}")
     fares, shown = [], ""
-    for line in printed.decode().splitlines():
+    for line in taxi.well("fare", "tariff", "drive", str(asked.constant), tariff=text, drive=drive.text()):
         if line == MARKED:
             fares.append(shown)
         elif line.startswith("REFUSED"):
@@ -63,18 +61,13 @@ def joined(taxi, text, asked):
     return lines
 
 
-def fare_after(steps, kilometres):
-    """The fare that is shown at a distance."""
-    return [fare for begins, fare in zip(*steps) if begins <= kilometres][-1]
-
-
 def draw_line(axes, at, lines, end):
     """The steps of a line, which has a colour, a dash and marks of its own; what a legend shows of it."""
     _, (kilometres, shown) = lines[at]
     look = {"color": LINES[at], "linewidth": 1.6, "linestyle": DASHES[at]}
     axes.step([*kilometres, end], [float(fare) for fare in [*shown, shown[-1]]], where="post", clip_on=False, **look)
     places = [end * (mark + (at + 0.5) / len(lines)) / MARKS for mark in range(MARKS)]
-    fares = [float(fare_after((kilometres, shown), place)) for place in places]
+    fares = [float([fare for begins, fare in zip(kilometres, shown) if begins <= place][-1]) for place in places]
     axes.plot(places, fares, linestyle="none", marker=MARKERS[at], color=LINES[at], markersize=5, clip_on=False)
     return Line2D([], [], marker=MARKERS[at], markersize=5, **look)
 
@@ -110,7 +103,7 @@ def fares(taxi, text, name, asked):
     if len(asked.hours) > len(DASHES):
         raise Refused(2, f"there may be {len(DASHES)} hours")
     lines, end = joined(taxi, text, asked), float(asked.km)
-    figure = new_figure(WIDTH + 3.4, HEIGHT + 1.0)
+    figure = Figure(figsize=(WIDTH + 3.4, HEIGHT + 1.0))
     axes = axes_in(figure, 0.7, 0.45, WIDTH, HEIGHT)
     looks = [draw_line(axes, at, lines, end) for at in range(len(lines))]
     axes.set(xlim=(0, end), xlabel="distance (km)", ylabel="fare (money of the tariff)", ylim=(0, None))

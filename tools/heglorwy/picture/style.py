@@ -4,7 +4,6 @@ import io
 import warnings
 
 import matplotlib
-from matplotlib.figure import Figure
 from matplotlib.patches import Rectangle
 
 from heglorwy.program import Refused
@@ -34,10 +33,6 @@ def patch(place, size, number, **more):
         place, *size, facecolor=COLOURS[number % len(COLOURS)], edgecolor="#444444", linewidth=0.6,
         hatch=PATTERNS[(number + number // len(COLOURS)) % len(PATTERNS)], **more,
     )
-
-
-def new_figure(width, height):
-    return Figure(figsize=(width, height))
 
 
 def axes_in(figure, left, top, width, height):

@@ -4,11 +4,12 @@ the line of the rate by which it charges."""
 import datetime
 from typing import NamedTuple
 
+from matplotlib.figure import Figure
 from matplotlib.ticker import MaxNLocator
 
 from heglorwy.drives import SECOND
-from heglorwy.meter import LAST, hirings_of, meter_of, tenths
-from heglorwy.picture.style import axes_in, new_figure, patch, svg_of, write_at
+from heglorwy.meter import LAST, asked_of, hirings_of, meter_of, tenths
+from heglorwy.picture.style import axes_in, patch, svg_of, write_at
 from heglorwy.picture.week import draw_legend, rows_of_legend
 from heglorwy.program import Differs, Refused, Scratch, read
 from heglorwy.tables import tables_of
@@ -98,12 +99,7 @@ def text_of(lines):
 def printed_by_run(asked, drive):
     """What `run` prints of a drive on a new store with the tariff and the parameters."""
     with Scratch("taxi") as taxi:
-        meter_of(taxi, asked)
-        printed, status = taxi.call("run", "tariff", "drive", drive=drive)
-    lines = printed.decode().splitlines()
-    if status:
-        raise Refused(2 if status == 3 else status, f"run ends with {status}: {lines[-1] if lines else ''}")
-    return lines
+        return asked_of(taxi, meter_of(taxi, asked), "run", drive)
 
 
 def displays_of(parted, asked, text):
@@ -277,7 +273,7 @@ def trip(taxi, text, name, asked):
     width = parted.ticks / unit
     used = [line for line in of_kind(tables.lines, "rate") if line.number in {piece[2] for piece in pieces}]
     legend, keys, under = rows_of_legend(text, used), keys_said(parted), 0.45 + KEYS + HEIGHT + STRIP + 0.8
-    figure = new_figure(WIDTH + 1.0, under + 0.25 * len(keys) + 0.1 + sum(0.2 * len(rows) + 0.04 for _, rows in legend))
+    figure = Figure(figsize=(WIDTH + 1.0, under + 0.25 * len(keys) + 0.1 + sum(0.2 * len(rows) + 0.04 for _, rows in legend)))
     write_at(figure, 0.35, 0.12, f"{name}, {asked.drive.name}: what the meter shows", fontsize=11)
     marks = axes_in(figure, 0.75, 0.45, WIDTH, KEYS)
     fares = axes_in(figure, 0.75, 0.45 + KEYS, WIDTH, HEIGHT)

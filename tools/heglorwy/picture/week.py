@@ -3,7 +3,9 @@
 import datetime
 import textwrap
 
-from heglorwy.picture.style import axes_in, new_figure, patch, svg_of, write_at
+from matplotlib.figure import Figure
+
+from heglorwy.picture.style import axes_in, patch, svg_of, write_at
 from heglorwy.program import Refused
 from heglorwy.tables import money, need_place, tables_of, text_of
 from heglorwy.tariff_parts import of_kind
@@ -195,7 +197,7 @@ def week(taxi, text, name, asked):
     legend = legend_of(text, [panel for panel, *_ in panels])
     high = HEAD + 7 * ROW + FOOT
     height = (1 + max(row for _, _, row, _ in panels)) * high
-    figure = new_figure(2 * (WIDTH + LEFT) + 0.25, TOP + height + 0.1 + sum(0.2 * len(rows) + 0.04 for _, rows in legend) + 0.1)
+    figure = Figure(figsize=(2 * (WIDTH + LEFT) + 0.25, TOP + height + 0.1 + sum(0.2 * len(rows) + 0.04 for _, rows in legend) + 0.1))
     write_at(figure, 0.35, 0.12, f"{name}, tariff position {asked.position}, zone {asked.zone}, {said_of(tables, weeks)}", fontsize=11)
     for panel, days, row, column in panels:
         axes = axes_in(figure, LEFT + column * (WIDTH + LEFT), TOP + row * high + HEAD, WIDTH, 7 * ROW)

@@ -133,7 +133,7 @@ def cut_off(search, store, commits):
     if not left:
         return b"", None
     settings = search.settings(place) if search.commits(place)[1] else b""
-    return with_number(store.totals.number, settings + left), search.places.line_at(place)
+    return with_number(store.totals.number, settings + left), bisect.bisect_right(search.places.ends, place) + 1
 
 
 def state_of(receipt, printed):

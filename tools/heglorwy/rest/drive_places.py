@@ -37,7 +37,3 @@ class Places:
             first, second = parted(behind[0], done)
             before, behind = [*before, first], [second, *behind[1:]]
         return b"".join(before), b"".join(behind)
-
-    def line_at(self, place):
-        """The number of the line in which what is left behind a place begins."""
-        return bisect.bisect_right(self.ends, place) + 1

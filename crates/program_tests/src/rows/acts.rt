@@ -60,9 +60,11 @@ impl Stores {
         let is_printed = is_wanted(rows, board.printed())?;
         let has_status = rows.number()? == usize::from(status);
         let may_write = rows.number()? == 1;
-        let is_kept = *board.image() == self.totals;
-        self.totals = *board.image();
-        Ok(is_printed && has_status && (may_write || is_kept))
+        let is_kept = may_write || *board.image() == self.totals;
+        if may_write {
+            self.totals = *board.image();
+        }
+        Ok(is_printed && has_status && is_kept)
     }
 
     /// Calls the hiring log.
@@ -73,9 +75,11 @@ impl Stores {
         let is_printed = is_wanted(rows, log.printed())?;
         let has_status = rows.number()? == usize::from(status);
         let may_write = rows.number()? == 1;
-        let is_kept = log.image().as_slice() == self.log.as_slice();
-        self.log = Vec::from_slice(self.alloc, log.image().as_slice())?;
-        Ok(is_printed && has_status && (may_write || is_kept))
+        let is_kept = may_write || log.image().as_slice() == self.log.as_slice();
+        if may_write {
+            self.log = Vec::from_slice(self.alloc, log.image().as_slice())?;
+        }
+        Ok(is_printed && has_status && is_kept)
     }
 }
 
