@@ -1,12 +1,13 @@
 -- Acts on a store, one after the other.
 use Rattle.std.proofs.Common.{[], ℕ, ◌*◌, ◌++◌, ◌+◌, ◌<◌, ◌∙◌, ◌∷◌, ◌≡◌, ◌≤◌, All, List, OnOk, Result, ap, arith, drop}
-use Rattle.std.proofs.Common.{get_or, length, subst, suc, sym, take, zero}
-use Rattle.{std.proofs.lemmas.List.{append-nil, take-append-drop, take_more}, meter_run.specs.OnStore.{Agrees, MayDo}}
-use Rattle.std.proofs.lemmas.List.Elements.{All-cons, All-head, All-nil, All-tail}
-use Rattle.meter_run.specs.{Commits.{after_act, after_acts, commits_in}, Deeds.{Deed, Does, act_text, deeds_of, texts}}
-use Rattle.meter_run.specs.{Common.{Act, Durable, Ghosts, IsLawfulAct, Known, Seal, TableParts}, Points.{GoesBy}}
-use Rattle.meter_run.specs.{PointLaws.{deeds_joined, keeps_longer, keeps_next, text_next}, RunLaws.{after_deeds_of}}
-use Rattle.meter_run.proofs.CommittedStates.{commits_append}
+use Rattle.{std.proofs.Common.{get_or, length, subst, suc, sym, take, zero}, meter_run.specs.RunLaws.{after_deeds_of}}
+use Rattle.{std.proofs.lemmas.List.{append-nil, take-append-drop, take_more}, outside.proofs.Laws.{keeps_none}}
+use Rattle.std.proofs.lemmas.{List.Elements.{All-cons, All-head, All-nil, All-tail}, Result.{on_ok_weaker}}
+use Rattle.meter_run.{specs.Commits.{after_act, after_acts, commits_in}, proofs.CommittedStates.{commits_append}}
+use Rattle.meter_run.specs.Common.{Act, Change, Durable, Ghosts, IsLawfulAct, KeepsStore, Known, Seal, TableParts}
+use Rattle.meter_run.specs.{Deeds.{Deed, Does, act_text, changes_of, deeds_of, texts}, InTurn.{Commits, CommitsInTurn}}
+use Rattle.meter_run.{specs.OnStore.{Agrees, MayDo}, proofs.EventLists.{on_ok}}
+use Rattle.meter_run.specs.{PointLaws.{deeds_joined, keeps_longer, keeps_next, text_next, turn_next}, Points.{GoesBy}}
 
 deeds_more : (acts : List Act) (n : ℕ) (x : Act) → n < length acts
     → deeds_of (take (n + 1) acts) ≡ deeds_of (take n acts) ++ Does (get_or acts n x) ∷ []
@@ -55,6 +56,25 @@ commit_steps act is a b same one h =
     let commits : commits_in (act ∷ []) ≡ 1 = ap (λ (x : Act). commits_in (x ∷ [])) same ∙ one in
     omega (arith, h, commits)
 
+-- what an act commits, if it's known which act it is
+module _ {D L : Type 0} {N : ℕ} (B : Ghosts D N L) {T E : Type 0} (r : Result T E) (d : Durable) (act is : Act)
+    (same : act ≡ is) (a b : D) where
+  pub turn_none : changes_of (Does is ∷ []) ≡ [] → KeepsStore B a b
+      → OnOk r (CommitsInTurn B d (changes_of (Does act ∷ [])) a b)
+  turn_none none kept = on_ok r _ (subst (λ (l : List Change). CommitsInTurn B d l a b)
+      (sym (ap (λ (x : Act). changes_of (Does x ∷ [])) same ∙ none)) kept)
+
+  pub turn_one : (change : Change) → changes_of (Does is ∷ []) ≡ change ∷ [] → OnOk r (Commits B d change a b)
+      → OnOk r (CommitsInTurn B d (changes_of (Does act ∷ [])) a b)
+  turn_one change one = on_ok_weaker r (λ commits. subst (λ (l : List Change). CommitsInTurn B d l a b)
+      (sym (ap (λ (x : Act). changes_of (Does x ∷ [])) same ∙ one)) (record {
+        begun = a;
+        kept = keeps_none B a;
+        done = b;
+        commits = commits;
+        rest = keeps_none B b;
+      }))
+
 -- what holds of each act holds of the one at a place
 pub all_at : (P : Act → Type 0) (acts : List Act) (n : ℕ) (x : Act) → n < length acts → All P acts → P (get_or acts n x)
 all_at P [] n x lt all = absurd (omega arith)
@@ -84,6 +104,16 @@ module _ {D L : Type 0} {N : ℕ} (B : Ghosts D N L) (tables : TableParts) (seal
         subst (λ (deeds : List Deed). GoesBy B tables seal a c d deeds) (sym (deeds_more acts n x lt))
         (keeps_next B tables seal a b c d (deeds_of (take n acts)) (Does (get_or acts n x) ∷ []) text h
         (subst (λ (y : Durable). GoesBy B tables seal b c y (Does (get_or acts n x) ∷ []))
+        (is ∙ sym (after_deeds_of d (take n acts))) k))
+
+    pub turn_more : (d e : Durable) → e ≡ after_acts d (take n acts)
+        → CommitsInTurn B d (changes_of (deeds_of (take n acts))) a b
+        → CommitsInTurn B e (changes_of (Does (get_or acts n x) ∷ [])) b c
+        → CommitsInTurn B d (changes_of (deeds_of (take (n + 1) acts))) a c
+    turn_more d e is h k =
+        subst (λ (deeds : List Deed). CommitsInTurn B d (changes_of deeds) a c) (sym (deeds_more acts n x lt))
+        (turn_next B a b c d (deeds_of (take n acts)) (Does (get_or acts n x) ∷ []) h
+        (subst (λ (y : Durable). CommitsInTurn B y (changes_of (Does (get_or acts n x) ∷ [])) b c)
         (is ∙ sym (after_deeds_of d (take n acts))) k))
 
     pub text_more : (B.tells_text → B.printed c ≡ B.printed b ++ act_text seal (get_or acts n x)) → B.tells_text

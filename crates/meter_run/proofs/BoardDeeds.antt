@@ -1,13 +1,13 @@
 -- One call of the board as a deed: a print, a commit, a scan.
 use Rattle.std.specs.{Option.{ForSome}, Prelude.{◌⊎◌, get_or, length}}
-use Rattle.std.proofs.Common.{[], ℕ, ◌∷◌, ◌≡◌, ◌≤◌, List, Some, ap, arith, inl, inr, refl, subst, sym}
+use Rattle.std.proofs.Common.{[], ℕ, ◌∷◌, ◌≡◌, ◌≤◌, List, Some, ap, arith, inl, inr, refl, subst, sym, ⊎_elim}
 use Rattle.outside.{specs.{Disk.{MayLeave}, Runs.{MayHold}}, proofs.Laws.{begins_not, leaves_kept, leaves_wider}}
-use Rattle.{slot_store.specs.{Stages.{IsPair}, declared.pair.Pair.{Pair}}, totals_record.specs.Reading.{reads}}
+use Rattle.slot_store.specs.{Stages.{IsPair}, Syncs.{ReadsOnly}, declared.pair.Pair.{Pair}}
 use Rattle.slot_store.{specs.Writes.{LeavesBeside, WritesIn}, proofs.Laws.{settled_stays, whole_leaves, whole_writes}}
-use Rattle.{meter_store.specs.Stored.{HasEither, LeavesEither, written_at}, meter_run.specs.PointLaws.{left_has}}
+use Rattle.{totals_record.specs.Reading.{reads}, meter_store.specs.Stored.{HasEither, LeavesEither, written_at}}
 use Rattle.meter_run.specs.Common.{Begins, Durable, Fits, Ghosts, HoldsState, KeepsStore, Known, LeavesNow, LeavesOnly}
 use Rattle.meter_run.specs.Common.{MayLeaveAmid, Place, SameBut, Seal, TableParts, state_number_of}
-use Rattle.meter_run.specs.Deeds.{Deed, after_deed, deed_text}
+use Rattle.meter_run.specs.{Deeds.{Deed, after_deed, deed_text}, PointLaws.{left_has}}
 use Rattle.meter_run.specs.{OnStore.{Agrees, HasBeside, WritesTotals}, Points.{GoesBy, HasFittingState, IsPointOfDeeds}}
 
 -- the pair of totals, whose latest body is at a place
@@ -61,6 +61,17 @@ module _ {D L : Type 0} {N : ℕ} (B : Ghosts D N L) where
               record { size = left.bytes.size; rest = λ place none. left.bytes.rest place (λ flies. none (inl flies)) };
           small = left.small;
         }) run;
+  }
+
+  -- reads that leave the image keep the store
+  pub keeps_read : (a b : D) → ReadsOnly B a b → B.image b ≡ B.image a → KeepsStore B a b
+  keeps_read a b reads same = record {
+    same = same;
+    flight = reads.flight;
+    later = reads.leaves.later;
+    before = λ start i x le left.
+        ⊎_elim (λ was. inl was) (λ may. inr (record { bytes = may.bytes; small = may.small }))
+        (reads.leaves.before start i x le left);
   }
 
   pub beside_commit : (place : Place) (d e : Durable) (a b : D) → place.slot ≤ 1 → WritesIn B (written_at place) 512 a b

@@ -5,18 +5,14 @@ use Rattle.{std.proofs.Common.{length, length-append, refl, subst, sym, ⊎_elim
 use Rattle.{slot_store.proofs.Laws.{answer_is, apart_same, at_stands, same_at}, totals_record.specs.Reading.{reads}}
 use Rattle.meter_run.specs.Common.{Change, Durable, Enter, Entry, Ghosts, HasSeal, HoldsSeal, IsAtRest, Place, Receipt}
 use Rattle.meter_run.specs.{Common.{Seal, TableParts, entries_of, state_number_of}, OnStore.{HasBeside, WritesTotals}}
-use Rattle.meter_run.{specs.{Deeds.{Deed, Does, changes_in, changes_of}, Runs.{OpensWith}}, proofs.Cuts.{begins_in}}
+use Rattle.meter_run.{specs.{Deeds.{Deed, Does, changes_of}, PointLaws.{changes_joined}}, proofs.Cuts.{begins_in}}
 use Rattle.meter_run.specs.Points.{HasEntries, HasEntryOf, IsCutOfDeeds, IsEntered, IsNumberedWithin}
+use Rattle.meter_run.specs.Runs.{OpensWith}
 use Rattle.seal_record.specs.Decoding as seals
 use Rattle.taxi_units.specs.declared.receipt.Receipt as receipts
 use Rattle.totals_record.specs.declared.change.Change.TheVariants as changes
 
 -- ---- what deeds commit
-
-pub changes_joined : (xs ys : List Deed) → changes_of (xs ++ ys) ≡ changes_of xs ++ changes_of ys
-changes_joined [] ys = refl
-changes_joined (x ∷ xs) ys = ap (λ (l : List Change). changes_in x ++ l) (changes_joined xs ys)
-    ∙ sym (append_assoc (changes_in x) (changes_of xs) (changes_of ys))
 
 entries_joined : (xs ys : List Change) → entries_of (xs ++ ys) ≡ entries_of xs ++ entries_of ys
 entries_joined [] ys = refl

@@ -4,25 +4,16 @@ use Rattle.std.proofs.Common.{[], ℕ, ◌++◌, ◌+◌, ◌∙◌, ◌∷◌, 
 use Rattle.std.proofs.{Common.{inl, inr, length, length-append, refl, subst, sym, ⊎_elim}, lemmas.List.{append-nil}}
 use Rattle.taxi_units.specs.declared.receipt.Kind.{Kind, TheVariants.{Aborted, Closed, Expired, Roam}}
 use Rattle.{outside.proofs.Laws.{begins_whole}, slot_store.proofs.Laws.{body_found}}
-use Rattle.totals_record.{specs.{Reading.{reads}, States.{after_all}}, proofs.Laws.{changes_add_up}}
-use Rattle.meter_states.specs.Pairs.{ArePaired, IsReceiptOf, waiting_after}
+use Rattle.totals_record.{specs.Reading.{reads}, proofs.Laws.{changes_add_up}}
+use Rattle.{meter_states.specs.Pairs.{ArePaired, IsReceiptOf, waiting_after}, meter_run.specs.PointLaws.{after_changes}}
 use Rattle.meter_run.specs.Common.{Act, Begins, Change, Durable, Enter, Entry, GrowsBy, Hold, Receipt, Refuse, Seal}
-use Rattle.meter_run.specs.Common.{Show, TableParts, after, state_number_of}
+use Rattle.meter_run.specs.Common.{Show, TableParts, state_number_of}
 use Rattle.meter_run.specs.Deeds.{Deed, Does, Prints, after_deed, after_deeds, changes_of, deed_text, deeds_of, texts}
 use Rattle.meter_run.specs.Points.{EndsInEntryOf, HasEntries, HasFittingState, IsCutOfDeeds, IsEntered, IsPointOfDeeds}
 use Rattle.taxi_units.specs.declared.receipt.Receipt as receipts
 use Rattle.totals_record.specs.declared.change.Change.TheVariants as changes
 
 -- ---- what deeds commit
-
-pub after_changes : (d : Durable) (deeds : List Deed) → after_deeds d deeds ≡ after_all d (changes_of deeds)
-after_changes d [] = refl
-after_changes d (Prints line ∷ deeds) = after_changes d deeds
-after_changes d (Does (Show display) ∷ deeds) = after_changes d deeds
-after_changes d (Does (Refuse why) ∷ deeds) = after_changes d deeds
-after_changes d (Does (Enter entry) ∷ deeds) = after_changes (after d (changes.Enter entry)) deeds
-after_changes d (Does (Hold trip) ∷ deeds) = after_changes (after d (changes.Hold trip)) deeds
-after_changes d (Does (Receipt receipt) ∷ deeds) = after_changes d deeds
 
 pub deeds_follow : (d : Durable) (deeds : List Deed) → GrowsBy d (after_deeds d deeds) (changes_of deeds)
 deeds_follow d deeds = subst (λ (e : Durable). GrowsBy d e (changes_of deeds)) (sym (after_changes d deeds))

@@ -2,13 +2,13 @@
 use Rattle.std.{specs.Option.{ForSome}, proofs.lemmas.{Bool.{ne_eqb}, List.{append-nil}}}
 use Rattle.std.proofs.Common.{[], ℕ, ◌++◌, ◌∙◌, ◌≡◌, List, None, Option, Some, ap, refl, subst, suc, sym, zero}
 use Rattle.{outside.proofs.Laws.{keeps_none}, meter_states.proofs.Laws.{the_store_keeps_the_trip-run}}
-use Rattle.{meter_states.specs.Equals.{interval_of}, meter_run.specs.Deeds.{after_deeds, deeds_of, texts}}
+use Rattle.{meter_states.specs.Equals.{interval_of}, meter_run.specs.Deeds.{after_deeds, changes_of, deeds_of, texts}}
 use Rattle.meter_run.specs.{BetweenEvents.{StandsWith}, Common.{interval_events, intervals_events, intervals_of, run}}
 use Rattle.meter_run.specs.Common.{Act, CachedCore, Durable, Event, Fits, Ghosts, IsLawful, IsSettingOf, Known}
 use Rattle.meter_run.specs.Common.{LeavesNow, Meets, Meter, Seal, Setting, Stands, StoreMeter, TableParts}
 use Rattle.meter_run.specs.{Dry.{CarriesEvents, IsMeterReady}, Points.{GoesBy}, StoreLaws.{beside_none, has_settled}}
+use Rattle.meter_run.specs.{InTurn.{CommitsInTurn}, RunLaws.{run_durable}, Texts.{shown_texts}}
 use Rattle.meter_run.specs.{OnStore.{CarriesOut, Has, Knows}, PointLaws.{keeps_still}, declared.dry.DryMeter.{DryMeter}}
-use Rattle.meter_run.specs.{RunLaws.{run_durable}, Texts.{shown_texts}}
 
 -- ---- the events of equal intervals
 
@@ -91,5 +91,7 @@ module _ {D L : Type 0} {N : ℕ} (B : Ghosts D N L) (tables : TableParts) (seal
         subst (λ (acts : List Act). GoesBy B tables seal a a m.durable (deeds_of acts))
         (meets s m is h.stands.core).done
         (keeps_still B tables seal a at.0 m.durable now at.1 h.fits);
+    turn = λ told s m is h. subst (λ (acts : List Act). CommitsInTurn B m.durable (changes_of (deeds_of acts)) a a)
+        (meets s m is h.stands.core).done (keeps_none B a);
     beside = λ told. beside_none B a now;
   }

@@ -12,10 +12,11 @@ use Rattle.meter_run.specs.Common.{HoldsState, IsDurable, IsLawful, IsLawfulAct,
 use Rattle.meter_run.specs.Common.{LeavesNow, LeavesOnly, MayLeaveAmid, Meets, Meter, Off, Outcome, Place, Pulses}
 use Rattle.meter_run.specs.Common.{Refuse, Seal, Setting, StoreMeter, TableParts, Tick, Up, opened, refusal_text, run}
 use Rattle.meter_run.specs.{Common.{step, supply_came}, OnStore.{MayDo, StandsOn, StopsAmid, WritesTotals}}
-use Rattle.meter_run.specs.{Deeds.{Deed, Does, deeds_of, texts}, Supply.{StaysOff}}
-use Rattle.meter_run.{specs.Dry.{IsMeterReady}, proofs.EventLists.{on_err, on_ok, on_ok_both, on_ok_under}}
+use Rattle.meter_run.specs.{Deeds.{Deed, Does, changes_of, deeds_of, texts}, StoreLaws.{beside_then, has_settled}}
+use Rattle.meter_run.specs.{Dry.{IsMeterReady}, PointLaws.{keeps_longer, keeps_next, turn_next}, Supply.{StaysOff}}
+use Rattle.meter_run.{specs.InTurn.{CommitsInTurn}, proofs.EventLists.{on_err, on_ok, on_ok_both, on_ok_under}}
 use Rattle.meter_run.specs.OnStore.{Agrees, Attempts, CarriesEvents, CarriesOut, Has, IsMeterReadyOn, IsSecured, Knows}
-use Rattle.meter_run.specs.{PointLaws.{keeps_longer, keeps_next}, Points.{GoesBy}, StoreLaws.{beside_then, has_settled}}
+use Rattle.meter_run.specs.Points.{GoesBy}
 use Rattle.meter_model.specs.KeptTrip as kept
 
 -- ---- a meter that opens with a durable state
@@ -159,8 +160,9 @@ module _ {D L : Type 0} {N : ℕ} (B : Ghosts D N L) (tables : TableParts) (seal
 
     out_event : (l : Known) → l.durable ≡ after_acts k.durable acts → Agrees B tables l b
         → (B.tells_text → B.printed b ≡ B.printed a ++ texts seal (deeds_of acts))
+        → (B.tells_image → CommitsInTurn B k.durable (changes_of (deeds_of acts)) a b)
         → CarriesOut B tables seal (λ s m. step s event m) x a (record { core = core; known = Some l }) b
-    out_event l durable agrees whole = record {
+    out_event l durable agrees whole turn = record {
       stands = λ told s m is h.
           let st = stands_known s x k a m known h in
           let after = stands_after s event x.core core k.durable l.durable acts m st (meets s m is st) durable in
@@ -172,15 +174,22 @@ module _ {D L : Type 0} {N : ℕ} (B : Ghosts D N L) (tables : TableParts) (seal
       printed = λ told s m is h t. subst (λ (xs : List Act). B.printed b ≡ B.printed a ++ texts seal (deeds_of xs))
           (acts_are s m is h) (whole t);
       points = points_are;
+      turn = λ told s m is h.
+          subst (λ (d : Durable). CommitsInTurn B d (changes_of (deeds_of (step s event m).acts)) a b)
+          (sym (known_is x.known k a m.durable known h.has).0)
+          (subst (λ (xs : List Act). CommitsInTurn B k.durable (changes_of (deeds_of xs)) a b) (acts_are s m is h)
+          (turn told));
       beside = beside;
     }
 
     pub event_attempted : {T E : Type 0} (r : Result T E) (l : Known) → IsSecured tables seal → IsMeterReady tables seal
         x.core k.durable → All (IsLawfulAct tables k.durable.number) acts → IsLawful tables seal core
         → OnOk r (l.durable ≡ after_acts k.durable acts) → OnOk r (Agrees B tables l b) → (B.tells_text
-        → OnOk r (B.printed b ≡ B.printed a ++ texts seal (deeds_of acts))) → HasCause (B.faults a) (B.faults b) r
+        → OnOk r (B.printed b ≡ B.printed a ++ texts seal (deeds_of acts)))
+        → (B.tells_image → OnOk r (CommitsInTurn B k.durable (changes_of (deeds_of acts)) a b))
+        → HasCause (B.faults a) (B.faults b) r
         → Attempts B tables seal (λ s m. step s event m) x a r (record { core = core; known = Some l }) b
-    event_attempted r l secured ready ranges lawful durable agrees whole cause = record {
+    event_attempted r l secured ready ranges lawful durable agrees whole turn cause = record {
       ready = on_ok_weaker r (λ both. record {
         secured = secured;
         lawful = lawful;
@@ -189,8 +198,8 @@ module _ {D L : Type 0} {N : ℕ} (B : Ghosts D N L) (tables : TableParts) (seal
           both.1,
         );
       }) (on_ok_both _ _ r durable agrees);
-      carried = on_ok_weaker r (λ all. out_event l all.0 all.1.0 all.1.1)
-          (on_ok_both _ _ r durable (on_ok_both _ _ r agrees (on_ok_under _ _ r whole)));
+      carried = on_ok_weaker r (λ all. out_event l all.0 all.1.0 all.1.1.0 all.1.1.1) (on_ok_both _ _ r durable
+          (on_ok_both _ _ r agrees (on_ok_both _ _ r (on_ok_under _ _ r whole) (on_ok_under _ _ r turn))));
       stopped = record { points = points_are; beside = beside };
       cause = cause;
     }
@@ -229,6 +238,8 @@ module _ {D L : Type 0} {N : ℕ} (B : Ghosts D N L) (tables : TableParts) (seal
           (sym (refuses s m h))
           (whole t ∙ ap (λ (text : List ℕ). B.printed a ++ text) (sym (append-nil (refusal_text NotNow))));
       points = λ told s m is h. refused_points s m h;
+      turn = λ told s m is h. subst (λ (o : Outcome). CommitsInTurn B m.durable (changes_of (deeds_of o.acts)) a b)
+          (sym (refuses s m h)) kept;
       beside = λ told. beside_kept B a b now kept;
     }
 
@@ -274,6 +285,7 @@ module _ {D L : Type 0} {N : ℕ} (B : Ghosts D N L) (tables : TableParts) (seal
         stands = λ told s m is h. absurd (never s m told h);
         printed = λ told s m is h t. absurd (never s m told h);
         points = amid_scan.points;
+        turn = λ told s m is h. absurd (never s m told h);
         beside = beside;
       });
       stopped = amid_scan;
@@ -281,7 +293,7 @@ module _ {D L : Type 0} {N : ℕ} (B : Ghosts D N L) (tables : TableParts) (seal
     }
 
     module _ (k : Known) (agrees : Agrees B tables k b) (finds : B.tells_image → (place : Place) (d : Durable)
-        → HoldsState B place a d → ForSome d.hold (Fits tables) → k.durable ≡ d) where
+        → HoldsState B place a d → ForSome d.hold (Fits tables) → k.durable ≡ d) (kept : KeepsStore B a b) where
       abbrev found : StoreMeter
       found = record { core = x.core; known = Some k }
 
@@ -312,6 +324,8 @@ module _ {D L : Type 0} {N : ℕ} (B : Ghosts D N L) (tables : TableParts) (seal
         printed = λ told s m is st t. subst (λ (p : List ℕ). B.printed c ≡ p ++ texts seal
             (deeds_of (step s (Up second) m).acts)) text (h.printed told s m is (stands_found told s m st) t);
         points = points_found c (record { points = h.points; beside = h.beside });
+        turn = λ told s m is st. turn_next B a b c m.durable [] (deeds_of (step s (Up second) m).acts) kept
+            (h.turn told s m is (stands_found told s m st));
         beside = λ told. beside_then B a b c (beside told) (h.beside told);
       }
 
@@ -338,6 +352,8 @@ module _ {D L : Type 0} {N : ℕ} (B : Ghosts D N L) (tables : TableParts) (seal
         (sym (append-nil (step s event m).acts)) (h.printed told s m is st t);
     points = λ told s m is st. subst (λ (xs : List Act). GoesBy B tables seal a b m.durable (deeds_of xs))
         (sym (append-nil (step s event m).acts)) (h.points told s m is st);
+    turn = λ told s m is st. subst (λ (xs : List Act). CommitsInTurn B m.durable (changes_of (deeds_of xs)) a b)
+        (sym (append-nil (step s event m).acts)) (h.turn told s m is st);
     beside = h.beside;
   }
 

@@ -2,10 +2,10 @@
 use Rattle.{std.specs.Option.{ForSome}, outside.proofs.Laws.{leaves_then, leaves_wider}}
 use Rattle.std.proofs.{Common.{[], ℕ, ◌++◌, ◌∙◌, ◌∷◌, ◌≡◌, List, ap, inl, refl, subst, sym}, lemmas.List.{append-nil}}
 use Rattle.meter_run.specs.Common.{Begins, Durable, Fits, Ghosts, HoldsState, KeepsStore, LeavesOnly, MayLeaveAmid}
-use Rattle.meter_run.specs.{Common.{SameBut, Seal, TableParts}, PointLaws.{after_joined, left_has, text_next}}
-use Rattle.meter_run.specs.{Deeds.{Deed, Prints, after_deeds}, OnStore.{HasBeside, WritesTotals}}
+use Rattle.meter_run.{specs.Common.{SameBut, Seal, TableParts}, proofs.Cuts.{cut_in_line, cut_longer, deeds_follow}}
+use Rattle.meter_run.specs.{Deeds.{Deed, Prints, after_deeds}, PointLaws.{after_joined, left_has, text_next, turn_next}}
+use Rattle.meter_run.specs.{OnStore.{HasBeside, WritesTotals}, Runs.{CutsLeave, HasDone, HasStopped}}
 use Rattle.meter_run.{specs.Points.{HasEntries, IsCutOfDeeds}, proofs.BoardDeeds.{settled_kept}}
-use Rattle.meter_run.{specs.Runs.{CutsLeave, HasDone, HasStopped}, proofs.Cuts.{cut_in_line, cut_longer, deeds_follow}}
 use Rattle.meter_run.specs.StoreLaws.{beside_more}
 
 module _ {D L : Type 0} {N : ℕ} (B : Ghosts D N L) (tables : TableParts) (seal : Seal) (a b c : D) (d : Durable)
@@ -63,5 +63,6 @@ module _ {D L : Type 0} {N : ℕ} (B : Ghosts D N L) (tables : TableParts) (seal
           (sym (after_joined d deeds (Prints line ∷ []))) done.opens.fits;
     };
     follows = deeds_follow d (deeds ++ Prints line ∷ []);
+    turn = turn_next B a b c d deeds (Prints line ∷ []) done.turn kept;
     cuts = line_cuts;
   }

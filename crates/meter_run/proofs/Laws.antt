@@ -9,8 +9,9 @@ use Rattle.meter_run.specs.Points.{HasEntries, HasEntryOf, IsCutOfDeeds, IsNumbe
 use Rattle.meter_run.proofs.CutImages.{beside_bytes, kept_begins, next_opens, numbers_rise, receipt_entered}
 use Rattle.meter_run.proofs.{CutImages.{receipt_numbered, seal_kept, seal_left}, LastLines.{line_begun, line_whole}}
 use Rattle.taxi_units.specs.declared.receipt.Receipt as receipts
-pub use Rattle.meter_run.{specs.PointLaws.{left_has, settled_has, texts_joined}, proofs.Cuts.{begins_in, deeds_follow}}
-pub use Rattle.meter_run.proofs.{CutImages.{changes_joined}, SupplyDrop.{begins, ready_first}}
+pub use Rattle.meter_run.specs.PointLaws.{changes_joined, left_has, settled_has, texts_joined, turn_behind, turn_kept}
+pub use Rattle.meter_run.proofs.BoardDeeds.{keeps_read}
+pub use Rattle.meter_run.proofs.{Cuts.{begins_in, deeds_follow}, SupplyDrop.{begins, ready_first}}
 
 module _ (tables : TableParts) (seal : Seal) (told : Type 0) (opening : Durable) (printed : List ℕ) (deeds : List Deed)
     (image text : List ℕ) (cut : IsCutOfDeeds tables seal told opening printed deeds image text) where

@@ -10,13 +10,14 @@ use Rattle.meter_run.specs.Common.{IsDurable, IsLawful, IsSeal, IsSettingOf, IsS
 use Rattle.meter_run.specs.Common.{Meter, Off, Operating, Outcome, Place, ReachesEnd, RunFault, Seal, Setting, Stopped}
 use Rattle.meter_run.specs.Common.{StoreMeter, StreamEnd, TableParts, Whole, actions_of, drive_end, ended, events_in}
 use Rattle.meter_run.specs.{Common.{opened, run, step_in, stream_limit}, OnStore.{StandsOn, StopsAmid, WritesTotals}}
-use Rattle.meter_run.specs.{Deeds.{Deed, after_deeds, deeds_of, texts}, RunLaws.{after_deeds_of, after_is, run_durable}}
+use Rattle.meter_run.{specs.Deeds.{Deed, after_deeds, changes_of, deeds_of, texts}, proofs.EventOnStore.{stands_opened}}
 use Rattle.meter_run.specs.{Drives.{BreaksDrive, TakesDrive, answer_of}, StoreLaws.{beside_then, has_settled, out_none}}
+use Rattle.meter_run.specs.InTurn.{CommitsInTurn}
 use Rattle.meter_run.specs.OnStore.{CarriesEvents, CarriesOut, Has, HasBeside, IsMeterReadyOn, IsSecured, Knows}
-use Rattle.meter_run.specs.{PointLaws.{deeds_joined, keeps_longer, keeps_next, text_next}, declared.source.Stop.{Stop}}
-use Rattle.meter_run.{specs.Points.{GoesBy, IsCutOfDeeds, IsPointOfDeeds}, proofs.EventOnStore.{stands_opened}}
+use Rattle.meter_run.specs.{PointLaws.{deeds_joined, keeps_longer, keeps_next, text_next, turn_next}, Source.{EndsBy}}
+use Rattle.meter_run.{specs.Points.{GoesBy, IsCutOfDeeds, IsPointOfDeeds}, proofs.RunEnds.{events_taken}}
+use Rattle.meter_run.specs.{RunLaws.{after_deeds_of, after_is, run_durable}, declared.source.Stop.{Stop}}
 use Rattle.meter_run.specs.Runs.{CutsLeave, EndsRun, FromOpening, HasDone, HasStopped, LeavesPoints, OpensWith}
-use Rattle.meter_run.{specs.Source.{EndsBy}, proofs.RunEnds.{events_taken}}
 use Rattle.meter_run.proofs.{Cuts.{acts_have_entries, cut_of, deeds_follow}, SupplyDrop.{ended_on, off_of, on_of}}
 use Rattle.meter_run.specs.declared.fault.RunFault.TheVariants as faults
 use Rattle.meter_run.specs.declared.source.Stop.TheVariants as stops
@@ -93,6 +94,8 @@ module _ {D L : Type 0} {N : ℕ} (B : Ghosts D N L) (tables : TableParts) (seal
         (acts s m st) (h.printed told s m is st t);
     points = λ told s m is st. subst (λ (xs : List Act). GoesBy B tables seal a b m.durable (deeds_of xs))
         (acts s m st) (h.points told s m is st);
+    turn = λ told s m is st. subst (λ (xs : List Act). CommitsInTurn B m.durable (changes_of (deeds_of xs)) a b)
+        (acts s m st) (h.turn told s m is st);
     beside = h.beside;
   }
 
@@ -241,6 +244,11 @@ module _ {D L : Type 0} {N : ℕ} (B : Ghosts D N L) (tables : TableParts) (seal
             fits = subst (λ (f : Durable). ForSome f.hold (Fits tables)) (durable_end s d) last.fits;
           };
           follows = deeds_follow d (all_deeds s d events);
+          turn = subst (λ (deeds : List Deed). CommitsInTurn B d (changes_of deeds) a c) (sym (all_joined s d events))
+              (turn_next B a b c d (deeds_of (run s events m).acts) (deeds_of (ended s n).acts)
+              (h.turn told s m is st)
+              (subst (λ (f : Durable). CommitsInTurn B f (changes_of (deeds_of (ended s n).acts)) b c)
+              (run_durable s events m) (k.turn told s n is at)));
           cuts = cuts_of a c s d events (end_points y b c h (amid_of (λ s m. ended s m) y b z c k) told s d is opens)
               (beside_then B a b c (h.beside told) (k.beside told));
         }

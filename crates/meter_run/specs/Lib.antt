@@ -5,6 +5,7 @@ pub mod Deeds
 pub mod Drives
 pub mod Dry
 pub mod DryLaws
+pub mod InTurn
 pub mod OnStore
 pub mod Pieces
 pub mod PointLaws

@@ -1,11 +1,11 @@
 -- Rules: the meter on a store, what it knows of the store, which state of the meter it stands for, and what events
 -- leave.
 use Rattle.std.specs.{Option.{ForSome}, Prelude.{ℕ, ◌++◌, ◌≡◌, ◌≤◌, All, List, None, OnOk, Option, Result, Some}}
-use Rattle.{outside.specs.Runs.{MayHold}, slot_store.specs.Writes.{OrWithin}, meter_run.specs.Deeds.{deeds_of, texts}}
+use Rattle.{outside.specs.Runs.{MayHold}, slot_store.specs.Writes.{OrWithin}, meter_run.specs.InTurn.{CommitsInTurn}}
 use Rattle.meter_run.specs.{BetweenEvents.{StandsWith}, Common.{SameBut, Seal, Setting, StoreMeter, TableParts, run}}
 use Rattle.meter_run.specs.Common.{Act, CachedCore, Durable, Event, Fits, Ghosts, HasCause, HoldsState, IsLawful}
 use Rattle.meter_run.specs.Common.{IsLawfulAct, IsSeal, IsSettingOf, Known, LeavesOnly, Meter, Off, Outcome, Place}
-use Rattle.meter_run.specs.{Dry.{IsMeterReady}, Points.{GoesBy}, Supply.{StaysOff}}
+use Rattle.meter_run.specs.{Deeds.{changes_of, deeds_of, texts}, Dry.{IsMeterReady}, Points.{GoesBy}, Supply.{StaysOff}}
 
 -- tables and a seal are secured if the seal is in its ranges, and both are those of some setting
 pub record IsSecured (tables : TableParts) (seal : Seal) : Type 0 where
@@ -81,14 +81,15 @@ module _ {D L : Type 0} {N : ℕ} (B : Ghosts D N L) (tables : TableParts) (seal
       B.tells_image → (s : Setting) (m : Meter) → IsSettingOf s tables seal → StandsOn B tables s x board m
       → Holding s m
 
-  -- a meter and a board carry out an outcome if they stand for its state, its acts were done, and a cut at each moment
-  -- leaves a point of them
+  -- a meter and a board carry out an outcome if they stand for its state, its acts were done, a cut at each moment
+  -- leaves a point of them, and their commits, in turn, are all that was written
   pub record CarriesOut (outcome : Setting → Meter → Outcome) (x : StoreMeter) (old : D) (y : StoreMeter)
       (new : D) : Type 0 where
     pub stands : ForEach x old (λ s m. StandsOn B tables s y new (outcome s m).next)
     pub printed : ForEach x old (λ s m. B.tells_text
         → B.printed new ≡ B.printed old ++ texts seal (deeds_of (outcome s m).acts))
     pub points : ForEach x old (λ s m. GoesBy B tables seal old new m.durable (deeds_of (outcome s m).acts))
+    pub turn : ForEach x old (λ s m. CommitsInTurn B m.durable (changes_of (deeds_of (outcome s m).acts)) old new)
     pub beside : B.tells_image → WritesTotals B old new
 
   -- a board stops amid an outcome if a cut at each moment leaves a point of its acts, and the board is at one

@@ -1,11 +1,14 @@
 -- For proofs: points of lists of deeds that are joined, and calls that carry deeds out, one behind the other.
 use Rattle.{std.{specs.Option.{ForSome}, proofs.lemmas.List.{append-nil}}, slot_store.proofs.Laws.{ready_left}}
 use Rattle.std.proofs.Common.{[], ℕ, ◌++◌, ◌∙◌, ◌∷◌, ◌≡◌, List, Some, ap, append_assoc, inl, inr, refl, subst, sym}
-use Rattle.outside.proofs.Laws.{begins_not, leaves_none, leaves_then, leaves_wider}
-use Rattle.{slot_store.specs.Slots.{IsSettled}, totals_record.specs.Reading.{reads}}
-use Rattle.meter_run.specs.Common.{Act, Begins, Durable, Fits, Ghosts, HasState, HoldsState, LeavesNow, Place, SameBut}
-use Rattle.meter_run.specs.{Common.{Seal, TableParts, state_number_of}, Points.{GoesBy, IsPointOfDeeds}}
-use Rattle.meter_run.specs.Deeds.{Deed, Does, after_deed, after_deeds, deed_text, deeds_of, texts}
+use Rattle.outside.proofs.Laws.{begins_not, keeps_then, leaves_none, leaves_then, leaves_wider}
+use Rattle.{slot_store.specs.Slots.{IsSettled}, totals_record.specs.{Reading.{reads}, States.{after_all}}}
+use Rattle.meter_run.specs.Common.{Act, Begins, Change, Durable, Enter, Fits, Ghosts, HasState, Hold, HoldsState}
+use Rattle.meter_run.specs.Common.{KeepsStore, LeavesNow, Place, Receipt, Refuse, SameBut, Seal, Show, TableParts}
+use Rattle.meter_run.specs.{Common.{after, state_number_of}, Deeds.{deeds_of, texts}, Points.{GoesBy, IsPointOfDeeds}}
+use Rattle.meter_run.specs.Deeds.{Deed, Does, Prints, after_deed, after_deeds, changes_in, changes_of, deed_text}
+use Rattle.meter_run.specs.InTurn.{CommitsInTurn}
+use Rattle.totals_record.specs.declared.change.Change.TheVariants as changes
 
 -- ---- lists of deeds
 
@@ -25,6 +28,22 @@ after_joined d (x ∷ xs) ys = after_joined (after_deed d x) xs ys
 pub deeds_joined : (xs ys : List Act) → deeds_of (xs ++ ys) ≡ deeds_of xs ++ deeds_of ys
 deeds_joined [] ys = refl
 deeds_joined (x ∷ xs) ys = ap (λ (deeds : List Deed). Does x ∷ deeds) (deeds_joined xs ys)
+
+-- the state after deeds is that after what they commit
+pub after_changes : (d : Durable) (deeds : List Deed) → after_deeds d deeds ≡ after_all d (changes_of deeds)
+after_changes d [] = refl
+after_changes d (Prints line ∷ deeds) = after_changes d deeds
+after_changes d (Does (Show display) ∷ deeds) = after_changes d deeds
+after_changes d (Does (Refuse why) ∷ deeds) = after_changes d deeds
+after_changes d (Does (Enter entry) ∷ deeds) = after_changes (after d (changes.Enter entry)) deeds
+after_changes d (Does (Hold trip) ∷ deeds) = after_changes (after d (changes.Hold trip)) deeds
+after_changes d (Does (Receipt receipt) ∷ deeds) = after_changes d deeds
+
+-- two lists of deeds that are joined commit what the first does, and then what the second does
+pub changes_joined : (xs ys : List Deed) → changes_of (xs ++ ys) ≡ changes_of xs ++ changes_of ys
+changes_joined [] ys = refl
+changes_joined (x ∷ xs) ys = ap (λ (l : List Change). changes_in x ++ l) (changes_joined xs ys)
+    ∙ sym (append_assoc (changes_in x) (changes_of xs) (changes_of ys))
 
 -- ---- points
 
@@ -130,3 +149,48 @@ module _ {D L : Type 0} {N : ℕ} (B : Ghosts D N L) (tables : TableParts) (seal
       second t ∙ ap (λ (p : List ℕ). p ++ texts seal ys) (first t)
       ∙ append_assoc (B.printed a) (texts seal xs) (texts seal ys)
       ∙ ap (λ (p : List ℕ). B.printed a ++ p) (sym (texts_joined seal xs ys))
+
+-- ---- commits in turn
+
+module _ {D L : Type 0} {N : ℕ} (B : Ghosts D N L) where
+  -- calls that keep the store, before commits in turn and behind them
+  pub turn_kept : (a b c : D) (d : Durable) (xs : List Change) → KeepsStore B a b → CommitsInTurn B d xs b c
+      → CommitsInTurn B d xs a c
+  turn_kept a b c d [] kept h = keeps_then B a b c kept h
+  turn_kept a b c d (x ∷ xs) kept h = record {
+    begun = h.begun;
+    kept = keeps_then B a b h.begun kept h.kept;
+    done = h.done;
+    commits = h.commits;
+    rest = h.rest;
+  }
+
+  pub turn_behind : (a b c : D) (d : Durable) (xs : List Change) → CommitsInTurn B d xs a b → KeepsStore B b c
+      → CommitsInTurn B d xs a c
+  turn_behind a b c d [] h kept = keeps_then B a b c h kept
+  turn_behind a b c d (x ∷ xs) h kept = record {
+    begun = h.begun;
+    kept = h.kept;
+    done = h.done;
+    commits = h.commits;
+    rest = turn_behind h.done b c (after d x) xs h.rest kept;
+  }
+
+  -- commits in turn, and others behind them, are commits of both lists in turn
+  turn_then : (a b c : D) (d : Durable) (xs ys : List Change) → CommitsInTurn B d xs a b
+      → CommitsInTurn B (after_all d xs) ys b c → CommitsInTurn B d (xs ++ ys) a c
+  turn_then a b c d [] ys h k = turn_kept a b c d ys h k
+  turn_then a b c d (x ∷ xs) ys h k = record {
+    begun = h.begun;
+    kept = h.kept;
+    done = h.done;
+    commits = h.commits;
+    rest = turn_then h.done b c (after d x) xs ys h.rest k;
+  }
+
+  -- the commits of two lists of deeds that are joined
+  pub turn_next : (a b c : D) (d : Durable) (xs ys : List Deed) → CommitsInTurn B d (changes_of xs) a b
+      → CommitsInTurn B (after_deeds d xs) (changes_of ys) b c → CommitsInTurn B d (changes_of (xs ++ ys)) a c
+  turn_next a b c d xs ys h k = subst (λ (l : List Change). CommitsInTurn B d l a c) (sym (changes_joined xs ys))
+      (turn_then a b c d (changes_of xs) (changes_of ys) h
+      (subst (λ (e : Durable). CommitsInTurn B e (changes_of ys) b c) (after_changes d xs) k))

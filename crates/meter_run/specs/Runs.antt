@@ -3,8 +3,8 @@ use Rattle.std.specs.{Option.{ForSome}, Prelude.{ℕ, ◌++◌, ◌≡◌, Err, 
 use Rattle.{taxi_units.specs.Streams.{StopsAfter}, drive_text.specs.Ending.{TellsEnd}}
 use Rattle.meter_run.specs.Common.{BadAt, Durable, Endless, Fits, Ghosts, GrowsBy, HoldsState, IsGoing, IsSettingOf}
 use Rattle.meter_run.specs.Common.{IsSplit, LeavesOnly, Place, RunFault, Seal, Setting, StreamEnd, TableParts, Whole}
-use Rattle.meter_run.specs.{Common.{actions_of, drive_end, events_of}, OnStore.{HasBeside}}
-use Rattle.meter_run.specs.{Deeds.{Deed, after_deeds, changes_of, deeds_of, texts}, Points.{IsCutOfDeeds}}
+use Rattle.meter_run.specs.{Common.{actions_of, drive_end, events_of}, OnStore.{HasBeside}, Points.{IsCutOfDeeds}}
+use Rattle.meter_run.specs.{Deeds.{Deed, after_deeds, changes_of, deeds_of, texts}, InTurn.{CommitsInTurn}}
 use Rattle.meter_run.specs.declared.fault.RunFault.TheVariants.{BadDrive, BoardFault, ReadFault, TooLong}
 
 -- the deeds of a run over bytes of a drive, if the store opens with a durable state, are the acts of the events, and
@@ -35,11 +35,13 @@ module _ {D L : Type 0} {N : ℕ} (B : Ghosts D N L) (tables : TableParts) (seal
       × HasBeside B old image)
 
   -- a board has done deeds if their texts were printed, if the text is told; the store has the state after their
-  -- commits, with which a run may open; and a cut leaves a point of them
+  -- commits, with which a run may open; their commits, in turn, are all that was written; and a cut leaves a point of
+  -- them
   pub record HasDone (durable : Durable) (deeds : List Deed) : Type 0 where
     pub printed : B.tells_text → B.printed new ≡ B.printed old ++ texts seal deeds
     pub opens : OpensWith B tables new (after_deeds durable deeds)
     pub follows : GrowsBy durable (after_deeds durable deeds) (changes_of deeds)
+    pub turn : CommitsInTurn B durable (changes_of deeds) old new
     pub cuts : CutsLeave durable deeds
 
   -- a board has stopped amid deeds if what it has is a point of them, and a cut leaves a point of them too

@@ -1,11 +1,12 @@
 -- For proofs: events that a meter carries out on a store, one behind the other.
 use Rattle.std.proofs.Common.{[], ℕ, ◌++◌, ◌∙◌, ◌≡◌, List, None, Option, Some, ap, inl, inr, refl, subst, sym, ⊎_elim}
-use Rattle.{std.proofs.lemmas.List.{append-nil}, outside.proofs.Laws.{leaves_none, leaves_then, leaves_wider}}
-use Rattle.{slot_store.specs.Writes.{OrWithin}, meter_run.specs.Common.{Setting, StoreMeter, TableParts, run}}
+use Rattle.{std.proofs.lemmas.List.{append-nil}, slot_store.specs.Writes.{OrWithin}}
+use Rattle.outside.proofs.Laws.{keeps_none, leaves_none, leaves_then, leaves_wider}
 use Rattle.meter_run.specs.Common.{Durable, Event, Ghosts, HoldsState, Known, LeavesNow, Meter, Place, SameBut, Seal}
-use Rattle.meter_run.specs.{Deeds.{Deed, deeds_of, texts}, RunLaws.{run_acts, run_durable, run_next}}
-use Rattle.meter_run.specs.OnStore.{CarriesOut, Has, HasBeside, StandsOn, StopsAmid, WritesTotals}
-use Rattle.meter_run.specs.{PointLaws.{deeds_joined, keeps_longer, keeps_next, keeps_still, text_next}, Points.{GoesBy}}
+use Rattle.meter_run.specs.{Common.{Setting, StoreMeter, TableParts, run}, Deeds.{Deed, changes_of, deeds_of, texts}}
+use Rattle.meter_run.specs.{InTurn.{CommitsInTurn}, RunLaws.{run_acts, run_durable, run_next}}
+use Rattle.meter_run.specs.{OnStore.{CarriesOut, Has, HasBeside, StandsOn, StopsAmid, WritesTotals}, Points.{GoesBy}}
+use Rattle.meter_run.specs.PointLaws.{deeds_joined, keeps_longer, keeps_next, keeps_still, text_next, turn_next}
 
 -- the deeds of a run over two lists of events that are joined are those over the first, and then those over the second
 run_deeds : (s : Setting) (m : Meter) (es fs : List Event)
@@ -77,6 +78,7 @@ module _ {D L : Type 0} {N : ℕ} (B : Ghosts D N L) (tables : TableParts) (seal
     printed = λ told s m is h t. sym (append-nil (B.printed a));
     points = λ told s m is h. let at = has_settled B x.known a m.durable h.has in
         keeps_still B tables seal a at.0 m.durable now at.1 h.fits;
+    turn = λ told s m is h. keeps_none B a;
     beside = λ told. beside_none B a now;
   }
 
@@ -96,6 +98,12 @@ module _ {D L : Type 0} {N : ℕ} (B : Ghosts D N L) (tables : TableParts) (seal
         (deeds_of (run s fs (run s es m).next).acts) (first.printed told s m is h) (first.points told s m is h)
         (subst (λ (d : Durable). GoesByDeeds b c d (deeds_of (run s fs (run s es m).next).acts)) (run_durable s es m)
         (next.points told s (run s es m).next is (first.stands told s m is h))));
+    turn = λ told s m is h. subst (λ (deeds : List Deed). CommitsInTurn B m.durable (changes_of deeds) a c)
+        (sym (run_deeds s m es fs))
+        (turn_next B a b c m.durable (deeds_of (run s es m).acts) (deeds_of (run s fs (run s es m).next).acts)
+        (first.turn told s m is h)
+        (subst (λ (d : Durable). CommitsInTurn B d (changes_of (deeds_of (run s fs (run s es m).next).acts)) b c)
+        (run_durable s es m) (next.turn told s (run s es m).next is (first.stands told s m is h))));
     beside = λ told. beside_then B a b c (first.beside told) (next.beside told);
   }
 

@@ -1,7 +1,7 @@
 //! Reads what the store has as the supply comes.
-ghost use Rattle.std.specs.{Option.{ForSome}, Prelude.{[], ◌+◌, ◌≡◌, ◌≤◌, IfOk, Some}};
-ghost use Rattle.meter_run.specs.Common.{Durable, Fits, HasCause, HoldsState, IsDurable, Known, Place, Seal};
-ghost use Rattle.meter_run.specs.{OnStore.{Agrees, WritesTotals}, Points.{GoesBy}};
+ghost use Rattle.std.specs.{Option.{ForSome}, Prelude.{[], ◌+◌, ◌≡◌, ◌≤◌, IfOk, OnOk, Some}};
+ghost use Rattle.meter_run.specs.Common.{Durable, Fits, HasCause, HoldsState, IsDurable, KeepsStore, Known, Place};
+ghost use Rattle.meter_run.specs.{Common.{Seal}, OnStore.{Agrees, WritesTotals}, Points.{GoesBy}};
 
 use crate::stored::Known;
 use meter_states::fits;
@@ -28,6 +28,7 @@ pub(crate) fn read_store<B: Board<STORE_SIZE, L>, L: Ledger>(
         → HoldsState B.Printer place board.old durable → ForSome durable.hold (Fits tables.now)
         → GoesBy B.Printer tables.now seal board.old board.new durable [] }
     ensures text { B.printed board.new ≡ B.printed board.old }
+    ensures kept { OnOk result (KeepsStore B.Printer board.old board.new) }
     ensures beside { B.tells_image → WritesTotals B.Printer board.old board.new }
     ensures cause { HasCause (B.faults board.old) (B.faults board.new) result }
     ensures steps { steps.new ≤ steps.old + 19 }

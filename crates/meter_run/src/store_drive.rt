@@ -33,8 +33,10 @@ use taxi_units::{Event, Steps};
 ///
 /// It asks nothing of the board. If the board tells its image, and opens with a durable state whose held trip fits, all
 /// that the run does was done at each answer but `BoardFault`, and a part of it there. A cut of the power at any moment
-/// leaves a point of it. A board that tells nothing may answer a scan by anything: if that is no durable state, or one
-/// whose held trip doesn't fit, the meter stays off. All of this is this project's own.
+/// leaves a point of it. At each answer but `BoardFault` the commits in turn are all that was written: each goes into
+/// the slot without the state before it, and without a commit the store is kept. A board that tells nothing may answer
+/// a scan by anything: if that is no durable state, or one whose held trip doesn't fit, the meter stays off. All of
+/// this is this project's own.
 pub fn run_events<F: Files, B: Board<STORE_SIZE, L>, L: Ledger>(
     tables: &Tables,
     seal: &Seal,

@@ -2,8 +2,8 @@
 ghost use Rattle.std.specs.{Option.{ForSome}, Prelude.{[], ◌*◌, ◌++◌, ◌+◌, ◌∷◌, ◌≡◌, ◌≤◌, OnOk, length}};
 ghost use Rattle.meter_run.specs.{Commits.{AreFor, IsFor, after_act, after_acts, commits_in}, Points.{GoesBy}};
 ghost use Rattle.meter_run.specs.Common.{Fits, HasCause, HoldsState, IsDurable, IsSeal, TableParts, after};
-ghost use Rattle.meter_run.specs.Deeds.{Deed, Does, act_text, after_deed, deeds_of, texts};
-ghost use Rattle.meter_run.specs.OnStore.{Agrees, MayDo, WritesTotals};
+ghost use Rattle.meter_run.specs.Deeds.{Deed, Does, act_text, after_deed, changes_of, deeds_of, texts};
+ghost use Rattle.meter_run.specs.{InTurn.{Commits, CommitsInTurn}, OnStore.{Agrees, MayDo, WritesTotals}};
 
 use crate::printing::{print_display, print_receipt, print_refusal};
 use crate::stored::Known;
@@ -33,6 +33,8 @@ fn store<B: Board<STORE_SIZE, L>, L: Ledger>(
         → after_deed known.old.durable deed ≡ after known.old.durable change.now
         → GoesBy B.Printer tables seal board.old board.new known.old.durable (deed ∷ []) }
     ensures text { B.printed board.new ≡ B.printed board.old }
+    ensures turn { B.tells_image
+        → OnOk result (Commits B.Printer known.old.durable change.now board.old board.new) }
     ensures beside { B.tells_image → WritesTotals B.Printer board.old board.new }
     ensures cause { HasCause (B.faults board.old) (B.faults board.new) result }
     ensures steps { steps.new ≤ steps.old + 6 }
@@ -66,6 +68,8 @@ fn do_act<B: Board<STORE_SIZE, L>, L: Ledger>(
         (B.printed board.new ≡ B.printed board.old ++ act_text seal.now act.now) }
     ensures points { B.tells_image → (tables : TableParts) → MayDo B.Printer tables known.old board.old (act.now ∷ [])
         → GoesBy B.Printer tables seal.now board.old board.new known.old.durable (Does act.now ∷ []) }
+    ensures turn { B.tells_image → OnOk result
+        (CommitsInTurn B.Printer known.old.durable (changes_of (Does act.now ∷ [])) board.old board.new) }
     ensures beside { B.tells_image → WritesTotals B.Printer board.old board.new }
     ensures cause { HasCause (B.faults board.old) (B.faults board.new) result }
     ensures steps { steps.new ≤ steps.old + 1 + 5 * commits_in (act.now ∷ []) }
@@ -98,6 +102,8 @@ pub(crate) fn do_acts<B: Board<STORE_SIZE, L>, L: Ledger>(
         (B.printed board.new ≡ B.printed board.old ++ texts seal.now (deeds_of acts.now)) }
     ensures points { B.tells_image → (tables : TableParts) → MayDo B.Printer tables known.old board.old acts.now
         → GoesBy B.Printer tables seal.now board.old board.new known.old.durable (deeds_of acts.now) }
+    ensures turn { B.tells_image → OnOk result
+        (CommitsInTurn B.Printer known.old.durable (changes_of (deeds_of acts.now)) board.old board.new) }
     ensures beside { B.tells_image → WritesTotals B.Printer board.old board.new }
     ensures cause { HasCause (B.faults board.old) (B.faults board.new) result }
     ensures steps { steps.new ≤ steps.old + length acts.now + 5 * commits_in acts.now }

@@ -42,6 +42,6 @@ returns-in-Some-clause-attempts g c =
     (λ told. c.read_store.ensures.points told c.args.seal.now) c.read_store.ensures.text c.read_store.ensures.beside
     k (c.in_ok-read_store.ensures.agrees k c.in-Some.is)
     (λ told place d settled fits. let found = c.in_ok-read_store.ensures.finds told place d settled fits in
-    found_same c.in_ok-read_store.field-0 found.0 k d found.1.0 c.in-Some.is found.1.1)
+    found_same c.in_ok-read_store.field-0 found.0 k d found.1.0 c.in-Some.is found.1.1) c.in_ok-read_store.ensures.kept
     c.resume.result c.resume.new.meter c.resume.new.board (c.in_ok-read_store.ensures.cause.kept true_is)
     c.resume.ensures.attempts

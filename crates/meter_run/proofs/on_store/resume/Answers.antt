@@ -53,7 +53,7 @@ returns-clause-attempts g c =
     c.requires.off c.resume-core.ensures.meets) (λ told. done.points told t may) done.beside
     c.do_acts-done.result c.do_acts-done.new.known ready.secured (ready_opened t k core found.durable ready.secured
     c.requires.off ready.lawful c.requires.range c.requires.agrees.fits)
-    lawful c.resume-core.ensures.lawful done.durable (done.agrees t may) done.whole done.cause
+    lawful c.resume-core.ensures.lawful done.durable (done.agrees t may) done.whole done.turn done.cause
 
 pub returns-clause-steps : goal.returns-clause-steps
 returns-clause-steps g c =

@@ -1,6 +1,6 @@
 use Rattle.std.{specs.Option.{ForSome}, proofs.Common.{ℕ, ◌+◌, ◌≡◌, ◌≤◌, Err, None, ap, arith, false, subst, sym, true}}
 use Rattle.slot_store.specs.{Scan.{IsAsFound, IsValidFinding}, declared.found.Found.{Found}}
-use Rattle.{totals_record.specs.Reading.{reads}, meter_run.proofs.BoardDeeds.{beside_scan, scan_point}}
+use Rattle.{totals_record.specs.Reading.{reads}, meter_run.proofs.BoardDeeds.{beside_scan, keeps_read, scan_point}}
 use Rattle.meter_run.specs.Common.{Durable, Fits, HoldsState, IsDurable, Known, state_number_of}
 use Rattle.meter_run.proofs.EventLists.{went_well}
 use Rattle.meter_run.proofs.SettledScans.{answers, bad_body, found_is, no_fault, not_blank, same_number}
@@ -189,3 +189,26 @@ pub returns-in-Err-SameNumber-clause-cause : goal.returns-in-Err-SameNumber-clau
 returns-in-Err-SameNumber-clause-cause g c = went_well (g.B.Printer.faults c.args.board.now)
     (g.B.Printer.faults c.scan.new.board) _
     (c.in-Err-SameNumber.ensures.cause.kept (λ no. absurd (cc c.in-Err-SameNumber.field-0-is)))
+
+-- ---- the store
+
+pub returns-in-Ok-Latest-clause-kept : goal.returns-in-Ok-Latest-clause-kept
+returns-in-Ok-Latest-clause-kept g c = keeps_read g.B.Printer c.args.board.now c.scan.new.board c.scan.ensures.reads
+    (c.in-Ok-Latest.ensures.synced.same (answers c.in-Ok-Latest.field-0))
+
+pub returns-in-Ok-Blank-clause-kept : goal.returns-in-Ok-Blank-clause-kept
+returns-in-Ok-Blank-clause-kept g c = keeps_read g.B.Printer c.args.board.now c.scan.new.board c.scan.ensures.reads
+    (c.in-Ok-Blank.ensures.synced.same (answers c.in-Ok-Blank.field-0))
+
+pub returns-in-Err-DeviceFailed-clause-kept : goal.returns-in-Err-DeviceFailed-clause-kept
+returns-in-Err-DeviceFailed-clause-kept g c = tt
+
+pub returns-in-Err-BadBody-clause-kept : goal.returns-in-Err-BadBody-clause-kept
+returns-in-Err-BadBody-clause-kept g c = keeps_read g.B.Printer c.args.board.now c.scan.new.board c.scan.ensures.reads
+    (c.in-Err-BadBody.ensures.synced.same
+    (bad_body c.in-Err-BadBody.field-0 _ c.in-Err-BadBody.field-0-is))
+
+pub returns-in-Err-SameNumber-clause-kept : goal.returns-in-Err-SameNumber-clause-kept
+returns-in-Err-SameNumber-clause-kept g c = keeps_read g.B.Printer c.args.board.now c.scan.new.board
+    c.scan.ensures.reads (c.in-Err-SameNumber.ensures.synced.same
+    (same_number c.in-Err-SameNumber.field-0 _ c.in-Err-SameNumber.field-0-is))

@@ -1,8 +1,8 @@
 use Rattle.std.proofs.{Common.{[], ◌∷◌, All, ap, refl, subst, sym}, lemmas.List.Elements.{All-head}}
-use Rattle.{receipt_text.specs.Receipts.{receipt_text}, meter_run.specs.Commits.{IsFor, after_act}}
+use Rattle.{receipt_text.specs.Receipts.{receipt_text}, meter_run.proofs.{ActsOnStore.{turn_one}, EventLists.{on_ok}}}
+use Rattle.meter_run.specs.{Commits.{IsFor, after_act}, Deeds.{Does, act_text}}
 use Rattle.meter_run.specs.Common.{Act, Enter, Hold, IsLawfulAct, display_text, part_of_seal, refusal_text}
-use Rattle.meter_run.{specs.Deeds.{Does, act_text}, proofs.EventLists.{on_ok}}
-use Rattle.meter_run.proofs.ActsOnStore.{commit_steps, leaves_as, print_steps, prints_as, prints_none}
+use Rattle.meter_run.proofs.ActsOnStore.{commit_steps, leaves_as, print_steps, prints_as, prints_none, turn_none}
 use Rattle.meter_run.proofs.{BoardDeeds.{agrees_kept, beside_kept, print_point}, CommittedStates.{fits_after}}
 use Rattle.meter_run.proofs.storing.do_act.Goals as goal
 
@@ -196,3 +196,25 @@ returns-in-Hold-clause-cause g c = c.store-in-Hold.ensures.cause
 pub returns-in-Hold-clause-steps : goal.returns-in-Hold-clause-steps
 returns-in-Hold-clause-steps g c = commit_steps c.args.act.now _ c.args.steps.now c.store-in-Hold.new.steps c.in-Hold.is
     refl c.store-in-Hold.ensures.steps
+
+pub returns-in-Show-clause-turn : goal.returns-in-Show-clause-turn
+returns-in-Show-clause-turn g c = λ told. turn_none g.B.Printer c.print_display.result c.args.known.now.durable
+    c.args.act.now _ c.in-Show.is c.args.board.now c.print_display.new.board refl c.print_display.ensures.printed.store
+
+pub returns-in-Refuse-clause-turn : goal.returns-in-Refuse-clause-turn
+returns-in-Refuse-clause-turn g c = λ told. turn_none g.B.Printer c.print_refusal.result c.args.known.now.durable
+    c.args.act.now _ c.in-Refuse.is c.args.board.now c.print_refusal.new.board refl
+    c.print_refusal.ensures.printed.store
+
+pub returns-in-Receipt-clause-turn : goal.returns-in-Receipt-clause-turn
+returns-in-Receipt-clause-turn g c = λ told. turn_none g.B.Printer c.print_receipt.result c.args.known.now.durable
+    c.args.act.now _ c.in-Receipt.is c.args.board.now c.print_receipt.new.board refl
+    c.print_receipt.ensures.printed.store
+
+pub returns-in-Enter-clause-turn : goal.returns-in-Enter-clause-turn
+returns-in-Enter-clause-turn g c = λ told. turn_one g.B.Printer c.store.result c.args.known.now.durable
+    c.args.act.now _ c.in-Enter.is c.args.board.now c.store.new.board _ refl (c.store.ensures.turn told)
+
+pub returns-in-Hold-clause-turn : goal.returns-in-Hold-clause-turn
+returns-in-Hold-clause-turn g c = λ told. turn_one g.B.Printer c.store-in-Hold.result c.args.known.now.durable
+    c.args.act.now _ c.in-Hold.is c.args.board.now c.store-in-Hold.new.board _ refl (c.store-in-Hold.ensures.turn told)

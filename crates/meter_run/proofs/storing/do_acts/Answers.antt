@@ -1,8 +1,9 @@
-use Rattle.std.proofs.{Common.{◌++◌, ◌+◌, ◌∙◌, List, ap, arith, refl, sym}, lemmas.List.{append-nil, take_all}}
-use Rattle.meter_run.specs.{Commits.{after_acts}, Common.{Act}, Deeds.{deeds_of, texts}, PointLaws.{keeps_still}}
+use Rattle.std.proofs.{Common.{◌++◌, ◌+◌, ◌∙◌, List, ap, arith, refl, subst, sym}, lemmas.List.{append-nil, take_all}}
+use Rattle.{outside.proofs.Laws.{keeps_none}, meter_run.{specs.PointLaws.{keeps_still}, proofs.ActsOnStore.{turn_more}}}
+use Rattle.meter_run.specs.{Commits.{after_acts}, Deeds.{changes_of, deeds_of, texts}, InTurn.{CommitsInTurn}}
+use Rattle.meter_run.{specs.Common.{Act}, proofs.EventLists.{counts_more, not_ok, true_is, went_well, went_wrong}}
 use Rattle.meter_run.{specs.StoreLaws.{beside_none, beside_then}, proofs.CarriedActs.{after_more, are_after, are_at}}
 use Rattle.meter_run.proofs.ActsOnStore.{may_at, points_more, points_whole, steps_more, steps_whole, text_more}
-use Rattle.meter_run.proofs.EventLists.{counts_more, not_ok, true_is, went_well, went_wrong}
 use Rattle.meter_run.proofs.storing.do_acts.Goals as goal
 
 pub do_act-requires-clause-act : goal.do_act-requires-clause-act
@@ -42,6 +43,8 @@ loop-act-preserved g c =
           (c.do_act.ensures.points told tables
           (may_at g.B.Printer tables c.args.known.now c.loop-act.known c.args.board.now c.loop-act.board c.args.acts.now
           c.loop-act.act-index _ c.loop-act-test.true may (c.loop-act.invariant.agrees tables may)));
+      turn = λ told. turn_more g.B.Printer t k a b b' acts n _ c.loop-act-test.true i.printed c.args.known.now.durable
+          c.loop-act.known.durable i.durable (i.turn told) (c.in_ok-do_act.ensures.turn told);
       beside = λ told. beside_then g.B.Printer a b b' (i.beside told) (c.do_act.ensures.beside told);
       faults = counts_more (g.B.Printer.faults c.args.board.now) (g.B.Printer.faults c.loop-act.board)
           (g.B.Printer.faults c.do_act.new.board) i.faults
@@ -62,6 +65,7 @@ loop-act-init g c =
       printed = λ told. sym (append-nil (g.B.Printer.printed a));
       points = λ told tables may. keeps_still g.B.Printer tables c.args.seal.now a k.place k.durable now
           (may.agrees.settled told) may.agrees.fits;
+      turn = λ told. keeps_none g.B.Printer a;
       beside = λ told. beside_none g.B.Printer a now;
       faults = omega arith;
       steps = omega arith;
@@ -123,6 +127,14 @@ returns-clause-whole g c = λ told.
 pub returns-clause-cause : goal.returns-clause-cause
 returns-clause-cause g c =
     went_well (g.B.Printer.faults c.args.board.now) (g.B.Printer.faults c.loop-act.board) tt c.loop-act.invariant.faults
+
+pub returns-in_err-do_act-clause-turn : goal.returns-in_err-do_act-clause-turn
+returns-in_err-do_act-clause-turn g c = λ told. not_ok _ c.from_residual.result _ c.from_residual.ensures.1
+
+pub returns-clause-turn : goal.returns-clause-turn
+returns-clause-turn g c = λ told. subst (λ (acts : List Act). CommitsInTurn g.B.Printer c.args.known.now.durable
+    (changes_of (deeds_of acts)) c.args.board.now c.loop-act.board)
+    (take_all c.loop-act.act-index c.args.acts.now c.loop-act-test.false) (c.loop-act.invariant.turn told)
 
 pub returns-clause-beside : goal.returns-clause-beside
 returns-clause-beside g c = c.loop-act.invariant.beside

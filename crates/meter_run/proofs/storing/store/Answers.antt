@@ -18,6 +18,17 @@ returns-in-Ok-clause-points g c = λ told tables seal deed fits fits_after is.
     commit_point g.B.Printer tables seal c.args.board.now c.commit.new.board d c.args.known.now.place
     (after d c.args.change.now) deed is fits fits_after (c.commit.ensures.any_moment told) c.commit.ensures.beside.text
 
+pub returns-in-Ok-clause-turn : goal.returns-in-Ok-clause-turn
+returns-in-Ok-clause-turn g c = λ told. record {
+  place = c.args.known.now.place;
+  settled = c.requires.settled told;
+  writes = c.commit.ensures.beside;
+  leaves = c.commit.ensures.any_moment told;
+}
+
+pub returns-in-Err-clause-turn : goal.returns-in-Err-clause-turn
+returns-in-Err-clause-turn g c = λ told. tt
+
 pub returns-in-Ok-clause-beside : goal.returns-in-Ok-clause-beside
 returns-in-Ok-clause-beside g c = λ told.
     let d = c.args.known.now.durable in

@@ -107,7 +107,7 @@ returns-in-Some-known-clause-attempts g c =
     (meets_as t k x.core d core c.args.event acts moved e (meets_with t k c.args.event x.core core d moved takes))
     (λ told. done.points told t may) done.beside
     c.do_acts.result c.do_acts.new.known c.requires.ready.secured ready
-    lawful takes.lawful done.durable (done.agrees t may) done.whole done.cause
+    lawful takes.lawful done.durable (done.agrees t may) done.whole done.turn done.cause
 
 pub returns-in-Some-known-clause-steps : goal.returns-in-Some-known-clause-steps
 returns-in-Some-known-clause-steps g c =
