@@ -38,6 +38,7 @@ pub fn read_book(alloc: Global, text: &[u8], now: &Durable) -> Result<Vec<Mark>,
     ensures refused { (fault : BookFault) → result ≡ Err fault → fault ≢ BookFault.NoMemory
         → book_read now.now text.now ≡ Err fault }
 {
+    // Called for what it ensures alone: the numbers of a state fit their fields.
     let limit = numbers_in(now);
     if text.len() > LONGEST {
         return Err(BookFault::TooLong);
