@@ -2,15 +2,15 @@
 use Rattle.std.specs.Prelude.{◌⊎◌}
 use Rattle.std.proofs.Common.{[], ℕ, ◌++◌, ◌+◌, ◌∙◌, ◌≡◌, ◌≢◌, ◌≤◌, Bool, Err, List, Ok, Result, ap, arith, false, inl}
 use Rattle.std.proofs.{Common.{inr, length, refl, subst, sym, true, ⊎_elim}, lemmas.List.{append-nil}}
-use Rattle.call_ends.{specs.Call.{LeavesUnread, MayTake}, proofs.Laws.{course-part, course-whole}}
-use Rattle.store_commands.proofs.Laws.{course-board, course-refusal}
+use Rattle.call_ends.{specs.{Call.{LeavesUnread, MayTake}, Pieces.{pieces_of}}, proofs.Laws.{course-part, course-whole}}
+use Rattle.{call_ends.specs.Ending.{EndsByCourse}, store_commands.proofs.Laws.{course-board, course-refusal}}
 use Rattle.drive_commands.specs.Bench.{Terms, bench_answer, bench_command, bench_text, judged_ending, passing_status}
-use Rattle.drive_commands.specs.{Bench.{readings_answer, terms_of}, Common.{readings_in, refused_as, status_of}}
+use Rattle.drive_commands.{specs.Bench.{readings_answer, terms_of}, proofs.JudgedReadings.{judged-over}}
 use Rattle.drive_commands.specs.{BenchSteps.{HasNoTerms, IsJudged, IsNotJudged, IsStopped}, DriveEnds.{ended_with}}
-use Rattle.drive_commands.specs.Common.{Answer, Answered, BadAt, Begins, Ended, Endless, EndsByCourse, IsGoing}
-use Rattle.drive_commands.specs.Common.{IsRefusal, IsSealedIn, IsSplit, NoMemory, ReadFailed, Reading, ReadingsFault}
-use Rattle.drive_commands.specs.Common.{StreamEnd, TellsEnd, Whole, drive_end, line_of, opening_in, pieces_of}
-use Rattle.drive_commands.proofs.{JudgedReadings.{judged-over}, TariffDrives.{begins_going}}
+use Rattle.drive_commands.specs.Common.{Answer, Answered, BadAt, Begins, Ended, Endless, IsGoing, IsRefusal, IsSealedIn}
+use Rattle.drive_commands.specs.Common.{IsSplit, NoMemory, ReadFailed, Reading, ReadingsFault, StreamEnd, TellsEnd}
+use Rattle.drive_commands.specs.Common.{Whole, drive_end, line_of, opening_in, readings_in, refused_as, status_of}
+use Rattle.drive_commands.proofs.TariffDrives.{begins_going}
 use Rattle.call_ends.specs.declared.ending.Ended.TheVariants as ended
 
 -- the status and the line of an end after the report was printed

@@ -1,150 +1,183 @@
 -- What the command `explain` answers: why there is nothing to explain, and what it prints of a drive.
-use Rattle.std.specs.Prelude.{◌⊎◌}
-use Rattle.std.proofs.Common.{[], ℕ, ◌<◌, ◌∙◌, ◌≡◌, ◌≢◌, Err, List, Ok, Result, ap, arith, inl, inr, length, refl, sym}
-use Rattle.{seal_record.specs.Reading.{params_read}, call_ends.proofs.Laws.{course-no_memory, course-refused}}
+use Rattle.std.{specs.Prelude.{◌⊎◌}, proofs.{Common.{subst, sym}, lemmas.List.{append-nil}}}
+use Rattle.std.proofs.Common.{[], ℕ, ◌++◌, ◌∙◌, ◌≡◌, Err, List, Ok, Result, Some, ap, arith, flat_map, inl, inr, refl}
+use Rattle.outside.{specs.declared.files.Files.{Ghosts as FileGhosts}, proofs.Laws.{rose_behind}}
+use Rattle.{seal_record.specs.Reading.{params_read}, call_ends.proofs.Laws.{stops-with, text_is}}
+use Rattle.call_ends.specs.{Ending.{EndsUnprinted}, Reads.{FailsOr, GoesTo, ReadsWord}, Tariffs.{HasTariff}}
+use Rattle.{call_ends.specs.{Making.{Makes}, Plan.{Last, Next}}, drive_commands.proofs.TariffDrives.{begins_going}}
+use Rattle.call_ends.proofs.Laws.{MakesText, ends-failing, ends-lacking, ends-plain, ends-refused, fails-text}
+use Rattle.call_ends.proofs.Laws.{goes-none, goes-on, makes-answer, makes-failing, makes-none, no_fault, refuses-bad}
 use Rattle.store_commands.specs.{StoreEnds.{ended_for_params}, declared.params.ParamsFault.{ParamsFault}}
-use Rattle.drive_commands.specs.{BenchSteps.{IsNoDrive, ended_for_drive}, ExplainSteps.{HasExplained}}
-use Rattle.drive_commands.specs.Common.{Answer, Answered, BadAt, DriveFault, Ended, Endless, EndsUnprinted, IsSplit}
-use Rattle.drive_commands.specs.Common.{NoMemory, ParamFault, Params, ReadFailed, Refusal, Setting, StreamEnd, TellsEnd}
-use Rattle.drive_commands.specs.Common.{TextFault, Tree, Whole, drive_end, ended_for, pieces_of, refused_as, shows}
-use Rattle.drive_commands.specs.{Common.{status_of, tariff_in}, Explain.{setting_from, setting_with}}
-use Rattle.drive_commands.specs.Explain.{ending_answer, explain_answer, explain_command, explain_turn, read_setting}
+use Rattle.drive_commands.specs.BenchSteps.{IsNoDrive, IsWholeDrive, ended_for_drive}
+use Rattle.drive_commands.specs.Common.{BadAt, Drive, DriveFault, Ended, Endless, Event, IsGoing, ParamFault, Params}
+use Rattle.drive_commands.specs.Common.{Refusal, Run, Setting, StreamEnd, TextFault, Tree, Whole, drive_end, ended_for}
+use Rattle.drive_commands.specs.Common.{explanations_of, run_events, setting_by, shows, tariff_in}
+use Rattle.drive_commands.specs.Explain.{HasSetting, ending_answer, explain_answer, explain_command, read_setting}
+use Rattle.drive_commands.specs.{Explain.{setting_from, setting_with}, ExplainedText.{explanations_text}}
 use Rattle.call_ends.specs.declared.ending.Ended.TheVariants as ended
 use Rattle.store_commands.specs.declared.params.ParamsFault.TheVariants as params
 use Rattle.call_ends.specs.declared.tariff.TextFault.TheVariants as texts
 use Rattle.drive_commands.specs.declared.whole_drive.DriveFault.TheVariants as drives
 
--- the setting of a tariff and of parameters that were read
-pub setting_is : (tariff text : List ℕ) (t : Tree) (read : Result Params ParamFault) → tariff_in tariff ≡ Ok t
-    → params_read text ≡ read → read_setting tariff text ≡ setting_from t read
-setting_is tariff text t read sound e =
-    ap (λ (r : Result Tree Refusal). setting_with r (params_read text)) sound ∙ ap (setting_from t) e
+pub explains : MakesText explain_command
+explains = text_is
+    (Next 1 (λ contents image taken. taken ≡ [])
+    (Next 3 (λ contents image taken. (taken ≡ []) × HasTariff (contents 1))
+    (Last 2 (λ contents image taken. IsGoing taken × HasSetting (contents 1) (contents 3))))) (Some (Drive 2))
+    (λ contents taken. (taken ≡ []) ⊎ HasSetting (contents 1) (contents 3))
+    (λ contents. explain_answer (read_setting (contents 1) (contents 3)) (contents 2)) refl
+
+-- parameters fail, or are refused
+pub fails-params : {refuses : Ended → Type 0} (fault : ParamsFault)
+    → ((why : ParamFault) → fault ≡ params.Refused why → refuses (ended.BadParams why))
+    → FailsOr refuses (ended_for_params fault)
+fails-params params.ReadFault refused = record { how = inl refl }
+fails-params (params.Refused why) refused = record { how = inr (inr (refused why refl)) }
+fails-params params.NoMemory refused = record { how = inr (inl refl) }
+
+-- ---- under a setting
+
+module _ (contents left : ℕ → List ℕ) (image : List ℕ) (read_failed : ℕ → Type 0)
+    (has : HasSetting (contents 1) (contents 3)) where
+  by_end : (reached : StreamEnd) → drive_end (contents 2) ≡ reached
+      → explain_answer (read_setting (contents 1) (contents 3)) (contents 2)
+      ≡ ending_answer has.setting (contents 2) reached
+  by_end reached e = ap (λ (r : Result Setting Ended). explain_answer r (contents 2)) has.is
+      ∙ ap (ending_answer has.setting (contents 2)) e
+
+  not_3 : ¬ explain_command.reads_all 3
+  not_3 (inl e) = absurd cc
+  not_3 (inr e) = absurd cc
+
+  -- the drive wasn't read
+  course-no_drive : (fault : DriveFault) → IsNoDrive (contents 2) (left 2) fault
+      → (fault ≡ drives.ReadFault → read_failed 2)
+      → EndsUnprinted explain_command contents left image read_failed (ended_for_drive fault)
+  course-no_drive drives.ReadFault h failed =
+      ends-failing explain_command contents left image read_failed h.taken h.split (inr has) 2 ended.ReadFault refl
+      (inr (inr refl)) (inr (inr (refl, (h.stands, has)))) (λ e. failed refl) (record { how = inl refl })
+  course-no_drive (drives.BadLine line) h failed =
+      ends-refused explain_command contents left image read_failed (ended.BadDrive line) (by_end (BadAt line) h.0)
+      not_3 (λ e. h.1)
+  course-no_drive drives.TooLong h failed =
+      ends-refused explain_command contents left image read_failed ended.EndlessDrive (by_end Endless h.0) not_3
+      (λ e. h.1)
+  course-no_drive drives.NoMemory h failed =
+      ends-lacking explain_command contents left image read_failed h.taken h.split (inr has)
 
 -- ---- reading the words in turn
 
-pub behind_drive : (other : ℕ) → explain_turn 2 < explain_turn other → (other ≢ 1) × ((other ≢ 2) × (other ≢ 3))
-behind_drive other lt = (
-  λ e. absurd (omega (arith, lt, ap explain_turn e)),
-  (λ e. absurd (omega (arith, lt, ap explain_turn e)), λ e. absurd (omega (arith, lt, ap explain_turn e))),
-)
-
-pub behind_params : (other : ℕ) → explain_turn 3 < explain_turn other → (other ≢ 1) × (other ≢ 3)
-behind_params other lt =
-    (λ e. absurd (omega (arith, lt, ap explain_turn e)), λ e. absurd (omega (arith, lt, ap explain_turn e)))
-
--- ---- why there is nothing
-
-module _ (contents left : ℕ → List ℕ) (image : List ℕ) (read_failed : ℕ → Type 0) where
-  abbrev pub Ends : Ended → Type 0
-  Ends end = EndsUnprinted explain_command contents left image read_failed end
-
-  -- the tariff or the parameters are refused, or the drive is
-  refused : (end : Ended) → explain_answer (read_setting (contents 1) (contents 3)) (contents 2) ≡ refused_as end
-      → status_of end ≢ 0
-      → (status_of end ≡ 3 → TellsEnd (contents 2) (left 2)) → Ends end
-  refused end e not_0 bad =
-      let status : (explain_answer (read_setting (contents 1) (contents 3)) (contents 2)).status ≡ status_of end =
-      ap (λ (a : Answer). a.status) e in
-      record {
-        course = Answered;
-        may = record {
-          whole = λ is. absurd (not_0 (sym status ∙ is));
-          bad = λ is. bad (sym status ∙ is);
-        };
-        stands = inl (record {
-          status_is = sym status;
-          line_is = sym (ap (λ (a : Answer). a.line) e);
-          shown = ap (λ (a : Answer). a.shown) e;
-        });
-      }
-
+module _ {E : Type 0} {F : FileGhosts E} (image : List ℕ) {files first : E} where
   -- the tariff wasn't read
-  pub course-no_tariff : IsSplit (contents 2) [] (left 2) → (fault : TextFault)
-      → (fault ≡ texts.ReadFault → read_failed 1)
-      → ((why : Refusal) → fault ≡ texts.Refused why → tariff_in (contents 1) ≡ Err why) → Ends (ended_for fault)
-  course-no_tariff untouched fault failed why =
-      course-refused explain_command contents left image read_failed untouched (inl refl)
-      (λ e. absurd cc) fault (inl refl)
-      (inl (refl, refl)) refl failed
-      (λ w e. ap
-      (λ (r : Result Tree Refusal). explain_answer (setting_with r (params_read (contents 3))) (contents 2)) (why w e))
+  pub no_tariff : {T : Type 0} (fault : TextFault) → ReadsWord F {T = T} 1 files first (Err (ended_for fault))
+      → (F.tells → (why : Refusal) → fault ≡ texts.Refused why → tariff_in (F.rest files 1) ≡ Err why)
+      → Makes F explain_command image files first [] (ended_for fault)
+  no_tariff fault own refused =
+      makes-failing explains 1 [] (goes-none files) own refl (omega arith) (inl refl) (λ tells. inl (refl, refl))
+      (λ tells. record { bytes = sym (own.others 2 (λ e. absurd (omega (arith, e)))) }) (λ tells. inl refl)
+      (λ tells. fails-text fault (λ why e. ends-plain explains (refuses-bad (ap
+      (λ (r : Result Tree Refusal). explain_answer (setting_with r (params_read (F.rest files 3))) (F.rest files 2))
+      (refused tells why e)))))
 
-  -- the parameters weren't read
-  pub course-no_params : IsSplit (contents 2) [] (left 2) → (t : Tree) → tariff_in (contents 1) ≡ Ok t
-      → (fault : ParamsFault)
-      → (fault ≡ params.ReadFault → read_failed 3)
-      → ((why : ParamFault) → fault ≡ params.Refused why → params_read (contents 3) ≡ Err why)
-      → Ends (ended_for_params fault)
-  course-no_params untouched t sound params.ReadFault failed why = record {
-    course = ReadFailed 3 [];
-    may = record {
-      reads = inr (inr refl);
-      comes = inr (inl (refl, (refl, record { tree = t; reads = sound })));
-      failed = failed refl;
-      takes = untouched;
-    };
-    stands = inl (record { status_is = refl; line_is = refl; shown = refl });
-  }
-  course-no_params untouched t sound (params.Refused fault) failed why =
-      refused (ended.BadParams fault)
-      (ap (λ (r : Result Setting Ended). explain_answer r (contents 2))
-      (setting_is (contents 1) (contents 3) t (Err fault) sound (why fault refl)))
-      (λ z. absurd (omega arith)) (λ z. absurd (omega arith))
-  course-no_params untouched t sound params.NoMemory failed why =
-      course-no_memory explain_command contents left image read_failed untouched (inl refl)
+  -- it was read
+  module _ {T : Type 0} {x : T} (t : Tree) (own : ReadsWord F {T = T} 1 files first (Ok x))
+      (sound : F.tells → tariff_in (F.rest files 1) ≡ Ok t) where
+    goes-tariff : GoesTo F explain_command image F.tells 0 files first
+    goes-tariff =
+        goes-on 1 [] (goes-none files) own (omega arith) (inl refl) (λ tells. inl (refl, refl)) (no_fault _ _ _ refl)
 
-  -- there is a setting
-  module _ (s : Setting) (is : read_setting (contents 1) (contents 3) ≡ Ok s) where
-    by_end : (reached : StreamEnd) → drive_end (contents 2) ≡ reached
-        → explain_answer (read_setting (contents 1) (contents 3)) (contents 2) ≡ ending_answer s (contents 2) reached
-    by_end reached e =
-        ap (λ (r : Result Setting Ended). explain_answer r (contents 2)) is ∙ ap (ending_answer s (contents 2)) e
+    comes-params : F.tells → explain_command.comes_to (F.rest files) image 3 []
+    comes-params tells = inr (inl (refl, (refl, record { tree = t; reads = sound tells })))
 
-    -- memory ran out when these bytes of the drive were taken
-    pub course-lacking : (taken : List ℕ) → IsSplit (contents 2) taken (left 2) → Ends ended.NoMemory
-    course-lacking taken split = record {
-      course = NoMemory;
-      may = record { taken = taken; may = inr (record { setting = s; is = is }); takes = split };
-      stands = inl (record { status_is = refl; line_is = refl; shown = refl });
-    }
+    setting : F.tells → (read : Result Params ParamFault) → params_read (F.rest first 3) ≡ read
+        → read_setting (F.rest files 1) (F.rest files 3) ≡ setting_from t read
+    setting tells read is =
+        ap (λ (r : Result Tree Refusal). setting_with r (params_read (F.rest files 3))) (sound tells)
+        ∙ ap (setting_from t) (ap params_read (sym (own.others 3 (λ e. absurd (omega (arith, e))))) ∙ is)
 
-    -- the drive wasn't read
-    pub course-no_drive : (fault : DriveFault) → IsNoDrive (contents 2) (left 2) fault
-        → (fault ≡ drives.ReadFault → read_failed 2) → Ends (ended_for_drive fault)
-    course-no_drive drives.ReadFault h failed = record {
-      course = ReadFailed 2 h.taken;
-      may = record {
-        reads = inr (inl refl);
-        comes = inr (inr (refl, (h.stands, record { setting = s; is = is })));
-        failed = failed refl;
-        takes = h.split;
-      };
-      stands = inl (record { status_is = refl; line_is = refl; shown = refl });
-    }
-    course-no_drive (drives.BadLine line) h failed =
-        refused (ended.BadDrive line) (by_end (BadAt line) h.0) (λ z. absurd (omega arith)) (λ z. h.1)
-    course-no_drive drives.TooLong h failed =
-        refused ended.EndlessDrive (by_end Endless h.0) (λ z. absurd (omega arith)) (λ z. h.1)
-    course-no_drive drives.NoMemory h failed = course-lacking h.taken h.split
+    module _ {second : E} where
+      -- the parameters weren't read
+      pub no_params : {U : Type 0} (fault : ParamsFault)
+          → ReadsWord F {T = U} 3 first second (Err (ended_for_params fault))
+          → (F.tells → (why : ParamFault) → fault ≡ params.Refused why → params_read (F.rest first 3) ≡ Err why)
+          → Makes F explain_command image files second [] (ended_for_params fault)
+      no_params fault mine refused =
+          makes-failing explains 3 [] goes-tariff mine refl (omega arith) (inr (inl refl)) comes-params
+          (λ tells. record {
+            bytes = sym (mine.others 2 (λ e. absurd (omega (arith, e)))
+                ∙ own.others 2 (λ e. absurd (omega (arith, e))));
+          }) (λ tells. inl refl)
+          (λ tells. fails-params fault (λ why e. ends-plain explains (record {
+            is = ap (λ (r : Result Setting Ended). explain_answer r (F.rest files 2))
+                (setting tells (Err why) (refused tells why e));
+            final = refl;
+          })))
 
--- ---- what is printed
+      -- they were read
+      module _ {U : Type 0} {y : U} (p : Params) (mine : ReadsWord F {T = U} 3 first second (Ok y))
+          (read : F.tells → params_read (F.rest first 3) ≡ Ok p) where
+        goes-params : GoesTo F explain_command image F.tells 1 files second
+        goes-params =
+            goes-on 3 [] goes-tariff mine (omega arith) (inr (inl refl)) comes-params (no_fault _ _ _ refl)
 
--- each word of the command was read to its end
-pub each_read : (left : ℕ → List ℕ) → left 1 ≡ [] → left 2 ≡ [] → left 3 ≡ [] → (word : ℕ)
-    → (word ≡ 1) ⊎ ((word ≡ 2) ⊎ (word ≡ 3)) → left word ≡ []
-each_read left one two three word (inl e) = ap left e ∙ one
-each_read left one two three word (inr (inl e)) = ap left e ∙ two
-each_read left one two three word (inr (inr e)) = ap left e ∙ three
+        has : F.tells → HasSetting (F.rest files 1) (F.rest files 3)
+        has tells = record { setting = setting_by t p; is = setting tells (Ok p) (read tells) }
 
--- the answer shows the text
-pub explained_shown : (contents left : ℕ → List ℕ) (text : List ℕ) → HasExplained contents left text
-    → explain_answer (read_setting (contents 1) (contents 3)) (contents 2) ≡ shows text
-explained_shown contents left text h =
-    by_end contents left [] (λ word. ⊥) h.setting h.is Whole h.whole ∙ ap shows (sym h.text_is)
+        comes-drive : F.tells → explain_command.comes_to (F.rest files) image 2 []
+        comes-drive tells = inr (inr (refl, (begins_going, has tells)))
 
--- in as many pieces as it has
-pub explained_pieces : (contents left : ℕ → List ℕ) (text : List ℕ) → HasExplained contents left text
-    → pieces_of (length text)
-    ≡ pieces_of (length (explain_answer (read_setting (contents 1) (contents 3)) (contents 2)).shown)
-explained_pieces contents left text h =
-    ap (λ (a : Answer). pieces_of (length a.shown)) (sym (explained_shown contents left text h))
+        drive_is : F.rest second 2 ≡ F.rest files 2
+        drive_is =
+            mine.others 2 (λ e. absurd (omega (arith, e))) ∙ own.others 2 (λ e. absurd (omega (arith, e)))
+
+        module _ {V : Type 0} {third : E} where
+          -- the drive wasn't read
+          pub no_drive : (fault : DriveFault) → ReadsWord F {T = V} 2 second third (Err (ended_for_drive fault))
+              → (F.tells → IsNoDrive (F.rest second 2) (F.rest third 2) fault)
+              → Makes F explain_command image files third [] (ended_for_drive fault)
+          no_drive fault drive why = record {
+            comes = λ tells.
+                course-no_drive (F.rest files) (F.rest third) image _ (has tells) fault
+                (subst (λ (x : List ℕ). IsNoDrive x (F.rest third 2) fault) drive_is (why tells))
+                (λ e. rose_behind _ _ _ (goes-params.counts 2) (drive.read_fault (ap Err (ap ended_for_drive e))));
+            follows = stops-with 2 [] goes-params drive (omega arith) (inr (inr refl)) comes-drive refl;
+            not_board = λ e. drive.not_board (ap Err e);
+          }
+
+          -- it was read
+          module _ {z : V} (drive : ReadsWord F {T = V} 2 second third (Ok z)) where
+            goes-drive : GoesTo F explain_command image F.tells 2 files third
+            goes-drive =
+                goes-on 2 [] goes-params drive (omega arith) (inr (inr refl)) comes-drive (no_fault _ _ _ refl)
+
+            each_read : F.tells → (word : ℕ) → explain_command.reads word → F.rest third word ≡ []
+            each_read tells word (inl e) = ap (F.rest third) e ∙ (drive.others 1 (λ e. absurd (omega (arith, e)))
+                ∙ mine.others 1 (λ e. absurd (omega (arith, e))) ∙ own.ended tells)
+            each_read tells word (inr (inl e)) =
+                ap (F.rest third) e ∙ (drive.others 3 (λ e. absurd (omega (arith, e))) ∙ mine.ended tells)
+            each_read tells word (inr (inr e)) = ap (F.rest third) e ∙ drive.ended tells
+
+            -- there was no memory for the text
+            pub no_text : Makes F explain_command image files third [] ended.NoMemory
+            no_text = makes-none explains (F.rest files 2) goes-drive
+                (λ tells. record {
+                  bytes = sym (ap (λ (x : List ℕ). F.rest files 2 ++ x) (drive.ended tells)
+                      ∙ append-nil (F.rest files 2));
+                })
+                (λ tells. inr (has tells))
+
+            -- the hirings are explained
+            pub explained : (runs : List Run) (text : List ℕ)
+                → (F.tells → IsWholeDrive (F.rest second 2) (F.rest third 2) runs)
+                → text
+                ≡ explanations_text (setting_by t p) (explanations_of (setting_by t p) (flat_map run_events runs))
+                → Makes F explain_command image files third text ended.Done
+            unfolding has
+            explained runs text whole is = makes-answer explains text ended.Done goes-drive refl
+                (λ tells.
+                let h = subst (λ (x : List ℕ). IsWholeDrive x (F.rest third 2) runs) drive_is (whole tells) in
+                by_end (F.rest files) (F.rest third) image (λ word. ⊥) (has tells) Whole h.end_is
+                ∙ ap shows (sym (is ∙ ap
+                (λ (events : List Event). explanations_text (setting_by t p) (explanations_of (setting_by t p) events))
+                h.events)))
+                (λ tells final. each_read tells)

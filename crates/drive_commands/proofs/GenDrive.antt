@@ -1,16 +1,17 @@
 -- The command `gen`.
 use Rattle.std.{specs.Prelude.{Bool, false, is_err, is_ok, nat_lt, pos, suc, true, zero}, proofs.lemmas.Bool.{lt-ltb}}
 use Rattle.std.proofs.Common.{[], ℕ, ◌*◌, ◌++◌, ◌+◌, ◌<◌, ◌∙◌, ◌∷◌, ◌≡◌, ◌≢◌, ◌≤◌, Err, List, None, Ok, Option, Result}
-use Rattle.std.proofs.{Common.{Some, ap, arith, inl, inr, length, refl, subst, sym}, lemmas.List.{append-nil}}
+use Rattle.std.proofs.{Common.{Some, ap, arith, inl, length, refl, subst, sym}, lemmas.List.{append-nil}}
 use Rattle.{slot_store.proofs.Laws.{body_found}, drive_text.specs.{Drive.{bad_at_end}, Ending.{stream_limit}}}
 use Rattle.interval_clock.specs.Offsets.{EachPlace, IsInRangeAt, IsOffsetList, RisesAt}
 use Rattle.{meter_store.specs.Sealing.{totals_found}, meter_model.specs.Setting.{IsSealOf}}
 use Rattle.{meter_states.specs.Setting.{IsTariffOf}, meter_run.specs.Supply.{drop_steps, is_supplied}}
-use Rattle.{call_ends.proofs.Laws.{course-bad_tariff, course-no_memory}, drive_commands.specs.Generate.{state_after}}
-use Rattle.drive_commands.specs.Common.{Answer, Answered, Begins, Durable, Ended, EndsByCourse, EndsUnprinted, Event}
-use Rattle.drive_commands.specs.Common.{Found, HasState, IsBoundedByDrive, IsSettingOf, IsTablesOf, Refusal, Rose, Seal}
-use Rattle.drive_commands.specs.Common.{Single, SlotFault, TableParts, TextFault, Tree, Whole, bad_tariff, drive_end}
-use Rattle.drive_commands.specs.Common.{ended_for, events_in, first_second, found_at, generated, tables_of, tariff_in}
+use Rattle.call_ends.{specs.Ending.{EndsUnprinted}, proofs.Laws.{course-bad_tariff, course-no_memory}}
+use Rattle.{call_ends.specs.Making.{EndsWithText}, drive_commands.specs.Generate.{state_after}}
+use Rattle.drive_commands.specs.Common.{Answer, Answered, Durable, Event, Found, HasState, IsBoundedByDrive}
+use Rattle.drive_commands.specs.Common.{IsSettingOf, IsTablesOf, Refusal, Rose, Seal, Single, SlotFault, TableParts}
+use Rattle.drive_commands.specs.Common.{TextFault, Tree, Whole, bad_tariff, drive_end, ended_for, events_in}
+use Rattle.drive_commands.specs.Common.{first_second, found_at, generated, tables_of, tariff_in}
 use Rattle.drive_commands.specs.Generate.{city_text, gen_answer, gen_command, generated_setting, generated_text}
 use Rattle.totals_record.specs.Reading as totals
 use Rattle.meter_store.specs.Stored as states
@@ -137,47 +138,20 @@ module _ (seed trips : ℕ) (contents left : ℕ → List ℕ) (image : List ℕ
   course-gen_refused texts.NoMemory not_read refused =
       course-no_memory (gen_command seed trips) contents left image read_failed refl tt
 
-  module _ (failed told : Type 0) (before now text : List ℕ) (t : Tree) (sound : tariff_in city_text ≡ Ok t)
-      (is : (gen_answer seed trips (Ok t)).shown ≡ text) where
-    abbrev Here : Ended → Type 0
-    Here end = EndsByCourse (gen_command seed trips) contents left image read_failed failed
-        (λ x. told → now ≡ before ++ x) (λ x. told → Begins before now x) end
-
-    shown_is : (gen_answer seed trips (tariff_in city_text)).shown ≡ text
-    shown_is = ap (λ (a : Answer). a.shown) (ap (gen_answer seed trips) sound) ∙ is
-
-    no_line : (gen_answer seed trips (tariff_in city_text)).line ≡ []
-    no_line = ap (λ (a : Answer). a.line) (ap (gen_answer seed trips) sound)
-
-    zero_is : (gen_answer seed trips (tariff_in city_text)).status ≡ 0
-    zero_is = ap (λ (a : Answer). a.status) (ap (gen_answer seed trips) sound)
-
-    pub course-gen : (told → now ≡ before ++ text) → Here ended.Done
-    course-gen printed = record {
-      course = Answered;
-      may = record {
-        whole = λ e word reads. absurd reads;
-        bad = λ e. absurd (zero-three _ zero_is e);
-      };
-      stands = inl (record {
-        status_is = sym zero_is;
-        line_is = sym no_line;
-        shown = λ tells. printed tells ∙ ap (λ (x : List ℕ). before ++ x) (sym shown_is);
-      });
-    }
-
-    pub course-gen_begun : (told → Begins before now text) → failed → Here ended.BoardFault
-    course-gen_begun begun cause = record {
-      course = Answered;
-      may = record {
-        whole = λ e word reads. absurd reads;
-        bad = λ e. absurd (zero-three _ zero_is e);
-      };
-      stands = inr (record {
-        ended_is = refl;
-        failed = cause;
-        started = λ tells. subst (λ (x : List ℕ). Begins before now x)
-            (sym (ap (λ (x : List ℕ). x ++ (gen_answer seed trips (tariff_in city_text)).line) shown_is
-            ∙ ap (λ (x : List ℕ). text ++ x) no_line ∙ append-nil text)) (begun tells);
-      });
-    }
+  -- the text is made
+  pub course-gen : (t : Tree) (text : List ℕ) → tariff_in city_text ≡ Ok t → (gen_answer seed trips (Ok t)).shown ≡ text
+      → EndsWithText (gen_command seed trips) contents left image read_failed text ended.Done
+  course-gen t text sound is =
+      let e = ap (gen_answer seed trips) sound in
+      record {
+        course = Answered;
+        may = record {
+          whole = λ z word reads. absurd reads;
+          bad = λ z. absurd (zero-three _ (ap (λ (a : Answer). a.status) e) z);
+        };
+        stands = inl (record {
+          status_is = sym (ap (λ (a : Answer). a.status) e);
+          line_is = sym (ap (λ (a : Answer). a.line) e);
+          shown = ap (λ (a : Answer). a.shown) e ∙ is;
+        });
+      }

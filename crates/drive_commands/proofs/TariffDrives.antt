@@ -3,10 +3,10 @@ use Rattle.std.{specs.Prelude.{◌∷◌, ◌⊎◌, pos, suc, zero}, proofs.lem
 use Rattle.std.proofs.Common.{[], ℕ, ◌++◌, ◌∙◌, ◌≡◌, Err, List, Ok, Result, ap, arith, inl, inr, refl, subst, sym}
 use Rattle.interval_clock.specs.Offsets.{EachPlace, IsInRangeAt, IsOffsetList, RisesAt}
 use Rattle.{drive_text.specs.Ending.{ShowsEnd}, meter_run.specs.{Drives.{RunsDrive, RunsTo}, Texts.{drive_shown}}}
-use Rattle.drive_commands.specs.Common.{Answer, Answered, BadAt, Begins, BoardFailed, Ended, Endless, EndsByCourse}
-use Rattle.drive_commands.specs.Common.{IsGoing, IsSettingOf, ReadFailed, Refusal, RunFault, Seal, StreamEnd}
-use Rattle.drive_commands.specs.Common.{TableParts, TellsEnd, Tree, Whole, bad_tariff, drive_end, first_second, line_of}
-use Rattle.drive_commands.specs.{Common.{status_of, tariff_in}, DriveEnds.{ended_by}}
+use Rattle.{call_ends.specs.Ending.{EndsByCourse}, drive_commands.specs.{Common.{tariff_in}, DriveEnds.{ended_by}}}
+use Rattle.drive_commands.specs.Common.{Answer, Answered, BadAt, Begins, BoardFailed, Ended, Endless, IsGoing}
+use Rattle.drive_commands.specs.Common.{IsSettingOf, ReadFailed, Refusal, RunFault, Seal, StreamEnd, TableParts}
+use Rattle.drive_commands.specs.Common.{TellsEnd, Tree, Whole, bad_tariff, drive_end, first_second, line_of, status_of}
 use Rattle.drive_commands.specs.Fare.{drive_answer, fare_answer, fare_command, setting_of, shown_under}
 use Rattle.meter_run.specs.declared.fault.RunFault.TheVariants as faults
 use Rattle.call_ends.specs.declared.ending.Ended.TheVariants as ended

@@ -2,10 +2,10 @@
 use Rattle.std.specs.Prelude.{[], ℕ, ◌++◌, ◌+◌, ◌≡◌, ◌≤◌, ◌⊎◌, Bool, Err, List, Ok, Result, Some, false, length, true}
 use Rattle.verify_bench.specs.{CrossOvers.{cross_overs_text}, PassedReports.{do_all_pass}, Report.{report_text}}
 use Rattle.verify_bench.specs.{ExpectedReceipts.{expected_of}, declared.expected.Expected.{Expected}}
+use Rattle.{call_ends.specs.Pieces.{pieces_of}, drive_commands.specs.{Common.{store_of}, Run.{sealed_tariff}}}
 use Rattle.drive_commands.specs.Common.{Answer, BadAt, Command, Drive, Durable, Ended, Endless, IsGoing, IsSealedIn}
 use Rattle.drive_commands.specs.Common.{Opening, Reading, ReadingsFault, Seal, Setting, StoreFault, StreamEnd, Tree}
-use Rattle.drive_commands.specs.Common.{Whole, drive_end, events_of, opening_in, pieces_of, readings_in, refused_as}
-use Rattle.drive_commands.specs.{Common.{setting_by, store_of}, Run.{sealed_tariff}}
+use Rattle.drive_commands.specs.Common.{Whole, drive_end, events_of, opening_in, readings_in, refused_as, setting_by}
 use Rattle.verify_bench.specs.declared.reading.ReadingsFault.TheVariants as readings
 use Rattle.call_ends.specs.declared.ending.Ended.TheVariants as ended
 

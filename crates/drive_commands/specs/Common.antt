@@ -16,10 +16,9 @@ pub use Rattle.meter_run.specs.{Drives.{IsBoundedByDrive}, declared.{fault.RunFa
 pub use Rattle.{meter_run.specs.Runs.{OpensWith}, verify_bench.specs.declared.reading.ReadingsFault.{ReadingsFault}}
 pub use Rattle.verify_bench.specs.{Generated.{generated}, Readings.{readings_in}, declared.reading.Reading.{Reading}}
 pub use Rattle.verify_bench.specs.TripExplanations.{Explanation, explanation_of, explanations_of}
-pub use Rattle.call_ends.specs.{Answer.{Answer, shows}, Carried.{Carries}, Pieces.{pieces_of}}
+pub use Rattle.call_ends.specs.{Answer.{Answer, shows}, Carried.{Carries}, Tariffs.{bad_tariff, tariff_in}}
 pub use Rattle.call_ends.specs.{Course.{Answered, BoardFailed, Command, NoMemory, ReadFailed, line_in}, Stream.{Drive}}
-pub use Rattle.call_ends.specs.Ending.{EndsByCourse, EndsOnDevices, EndsUnprinted, IsRefusal, ended_for}
-pub use Rattle.call_ends.specs.{LastLine.{line_of, refused_as, status_of}, Tariffs.{bad_tariff, tariff_in}}
+pub use Rattle.call_ends.specs.{Ending.{EndsOnDevices, IsRefusal, ended_for}, LastLine.{line_of, refused_as, status_of}}
 pub use Rattle.call_ends.specs.declared.{ending.Ended.{Ended}, tariff.Refusal.{Refusal, TheVariants.{TooLong}}}
 pub use Rattle.call_ends.specs.declared.{ending.Ended.TheVariants.{BoardFault, ReadFault}, tariff.TextFault.{TextFault}}
 pub use Rattle.store_commands.specs.{Opening.{IsSealedIn, opening_in, store_of}, declared.opening.Opening.{Opening}}

@@ -1,9 +1,9 @@
 -- Rules: the command `explain TARIFF DRIVE PARAMS`.
-use Rattle.std.specs.Prelude.{[], ℕ, ◌+◌, ◌==◌, ◌≡◌, ◌≤◌, ◌⊎◌, Err, List, Ok, Result, Some, if◌then◌else◌, length}
-use Rattle.{seal_record.specs.Reading.{params_read}, call_ends.specs.Tariffs.{HasTariff}}
+use Rattle.std.specs.Prelude.{[], ℕ, ◌≡◌, ◌⊎◌, Err, List, Ok, Result, Some}
+use Rattle.{seal_record.specs.Reading.{params_read}, call_ends.specs.{Tariffs.{HasTariff}, TextCommands.{text_command}}}
+use Rattle.{call_ends.specs.Plan.{Last, Next}, drive_commands.specs.Common.{refused_as, setting_by, shows, tariff_in}}
 use Rattle.drive_commands.specs.Common.{Answer, BadAt, Command, Drive, Ended, Endless, IsGoing, ParamFault, Params}
 use Rattle.drive_commands.specs.Common.{Refusal, Setting, StreamEnd, Tree, Whole, drive_end, events_of, explanations_of}
-use Rattle.drive_commands.specs.Common.{pieces_of, refused_as, setting_by, shows, tariff_in}
 use Rattle.drive_commands.specs.ExplainedText.{explanations_text}
 use Rattle.call_ends.specs.declared.ending.Ended.TheVariants as ended
 
@@ -49,29 +49,12 @@ pub record HasSetting (tariff params : List ℕ) : Type 0 where
   pub setting : Setting
   pub is : read_setting tariff params ≡ Ok setting
 
--- the drive, word 2, is read behind the parameters, word 3
-abbrev pub explain_turn : (word : ℕ) → ℕ
-explain_turn word = if word == 2 then 3 else (if word == 3 then 2 else word)
-
 -- the command `explain` reads its tariff, its parameters and then its drive into memory, and prints at the end alone,
 -- in a step for each piece and one for the last line
 abbrev pub explain_command : Command
-explain_command = record {
-  answer = λ contents image. explain_answer (read_setting (contents 1) (contents 3)) (contents 2);
-  drive = Some (Drive 2);
-  shown = λ contents image taken. [];
-  reads = λ word. (word ≡ 1) ⊎ ((word ≡ 2) ⊎ (word ≡ 3));
-  turn = explain_turn;
-  reads_all = λ status. status ≡ 0;
-  comes_to = λ contents image word taken.
-      ((word ≡ 1) × (taken ≡ []))
-      ⊎ (((word ≡ 3) × ((taken ≡ []) × HasTariff (contents 1)))
-      ⊎ ((word ≡ 2) × (IsGoing taken × HasSetting (contents 1) (contents 3))));
-  may_lack = λ contents image taken. (taken ≡ []) ⊎ HasSetting (contents 1) (contents 3);
-  told = λ files_tell image_told. files_tell;
-  opens = ⊥;
-  writes = λ ended. ⊥;
-  steps = λ files_tell image_told contents left image before now. files_tell
-      → now ≤ before + 1 + pieces_of (length
-      (explain_answer (read_setting (contents 1) (contents 3)) (contents 2)).shown);
-}
+explain_command = text_command
+    (Next 1 (λ contents image taken. taken ≡ [])
+    (Next 3 (λ contents image taken. (taken ≡ []) × HasTariff (contents 1))
+    (Last 2 (λ contents image taken. IsGoing taken × HasSetting (contents 1) (contents 3))))) (Some (Drive 2))
+    (λ contents taken. (taken ≡ []) ⊎ HasSetting (contents 1) (contents 3))
+    (λ contents. explain_answer (read_setting (contents 1) (contents 3)) (contents 2))

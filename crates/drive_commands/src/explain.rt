@@ -1,14 +1,13 @@
 //! The command `explain`.
-ghost use Rattle.std.specs.Prelude.{ℕ, ◌≡◌, ◌≢◌, All, Err, IfOk, List, flat_map};
-ghost use Rattle.{verify_bench.specs.Settings.{setting_under}, call_ends.specs.Call.{LeavesUnread, StopsReading}};
-ghost use Rattle.drive_commands.specs.Common.{Carries, EndsUnprinted, IsRunInRange, Rose, explanations_of, run_events};
-ghost use Rattle.drive_commands.specs.Explain.{explain_command};
-ghost use Rattle.drive_commands.specs.{ExplainSteps.{HasExplained}, ExplainedText.{explanations_text}};
+ghost use Rattle.std.specs.Prelude.{ℕ, ◌≡◌, All, IfOk, List, flat_map};
+ghost use Rattle.{verify_bench.specs.Settings.{setting_under}, call_ends.specs.Making.{Makes, end_made, text_made}};
+ghost use Rattle.drive_commands.specs.Common.{Carries, IsRunInRange, explanations_of, run_events};
+ghost use Rattle.drive_commands.specs.{Explain.{explain_command}, ExplainedText.{explanations_text}};
 
 use crate::drive_ends::refused_drive;
 use crate::explained_text::text_of_explained;
 use crate::whole_drive::read_drive;
-use call_ends::{Ended, print_text, read_tariff, refused_by};
+use call_ends::{Ended, Made, print_made, read_tariff, refused_by};
 use drive_text::Run;
 use outside::{Files, Printer, STORE_SIZE};
 use seal_record::Params;
@@ -30,28 +29,13 @@ pub fn explain<F: Files, B: Printer<STORE_SIZE, L>, L: Ledger>(
     ensures { Carries F.Files B.Printer explain_command files.old files.new board.old board.new
         steps.old steps.new result }
 {
-    let text = match explanation(alloc, files) {
-        Ok(text) => text,
-        Err(why) => return why,
-    };
-    match print_text(text.as_slice(), board, steps) {
-        Ok(()) => Ended::Done,
-        Err(_) => Ended::BoardFault,
-    }
+    print_made(explanation(alloc, files), board, steps)
 }
 
-/// What is printed of a drive.
-fn explanation<F: Files>(alloc: Global, files: &mut F) -> Result<Vec<u8>, Ended>
-    ensures explained { F.tells → IfOk result (λ text. HasExplained (F.rest files.old) (F.rest files.new) text.items) }
-    ensures refused { (why : Ended) (image : List ℕ) → F.tells → result ≡ Err why
-        → EndsUnprinted explain_command (F.rest files.old) (F.rest files.new) image
-        (λ word. Rose (F.faults files.old word) (F.faults files.new word)) why }
-    ensures read_fault { result ≡ Err Ended.ReadFault → StopsReading F.Files explain_command files.old files.new }
-    ensures not_board { result ≢ Err Ended.BoardFault }
-    ensures others { (word : ℕ) → ¬ explain_command.reads word → F.rest files.new word ≡ F.rest files.old word }
-    ensures unread { (image : List ℕ) → F.tells
-        → LeavesUnread explain_command (F.rest files.old) (F.rest files.new) image }
-    ensures counts { result ≢ Err Ended.ReadFault → (word : ℕ) → F.faults files.new word ≡ F.faults files.old word }
+/// Reads the words in turn, and gives what is printed of the drive. Nothing is left of what was read.
+fn explanation<F: Files>(alloc: Global, files: &mut F) -> Result<Made, Ended>
+    ensures { (image : List ℕ) → Makes F.Files explain_command image files.old files.new
+        (text_made result) (end_made result) }
 {
     let checked = match read_tariff(alloc, files, 1) {
         Ok(checked) => checked,
@@ -66,7 +50,10 @@ fn explanation<F: Files>(alloc: Global, files: &mut F) -> Result<Vec<u8>, Ended>
         Err(fault) => return Err(refused_drive(fault)),
     };
     match text_of_runs(alloc, &checked, &params, runs.as_slice()) {
-        Ok(text) => Ok(text),
+        Ok(text) => Ok(Made {
+            text,
+            ended: Ended::Done,
+        }),
         Err(_) => Err(Ended::NoMemory),
     }
 }

@@ -8,7 +8,7 @@ ghost use Rattle.drive_commands.specs.Common.{drive_end, events_in, first_second
 ghost use Rattle.drive_commands.specs.Generate.{city_text, event_count, gen_command, generated_text, state_after};
 
 use arrayvec::ArrayVec;
-use call_ends::{Ended, push_number_line, refused_by};
+use call_ends::{Ended, ended_behind, push_number_line, refused_by};
 use drive_modes::{Constant, Mode};
 use interval_clock::Offsets;
 use meter_run::run_events;
@@ -212,8 +212,5 @@ pub fn generate<B: Printer<STORE_SIZE, L>, L: Ledger>(
     let seal = gen_seal(decimals);
     let durable = state_of_drive(&tables, &seal, seed, trips, steps);
     let line = summary(seed, trips, &durable, decimals);
-    match board.print(line.as_slice(), steps) {
-        Ok(()) => Ended::Done,
-        Err(_) => Ended::BoardFault,
-    }
+    ended_behind(board.print(line.as_slice(), steps), Ended::Done)
 }

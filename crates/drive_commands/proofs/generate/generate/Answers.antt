@@ -1,10 +1,10 @@
-use Rattle.{std.specs.Prelude.{is_err}, outside.proofs.Laws.{keeps_none, keeps_print}}
-use Rattle.std.proofs.Common.{ℕ, ◌++◌, ◌<◌, ◌∙◌, ◌≡◌, Err, List, Ok, ap, arith, length, refl, rules, subst, sym}
-use Rattle.call_ends.{specs.Carried.{no_files}, proofs.Laws.{done_not_read}}
-use Rattle.call_ends.proofs.Laws.{board_not_read, carries-kept, cause_board, cause_done, course-unprinted}
-use Rattle.drive_commands.specs.Common.{Begins, tables_of, tariff_in}
+use Rattle.std.proofs.Common.{ℕ, ◌<◌, ◌∙◌, ◌≡◌, Err, List, Ok, ap, arith, length, refl, rules, subst, sym}
+use Rattle.{outside.proofs.Laws.{keeps_none, keeps_print}, call_ends.proofs.Laws.{ends-printed, prints-by}}
+use Rattle.call_ends.specs.{Carried.{no_files}, Making.{Prints, end_printed}}
+use Rattle.call_ends.proofs.Laws.{board_not_read, carries-kept, course-unprinted, done_not_board, done_not_read}
+use Rattle.drive_commands.specs.Common.{tables_of, tariff_in}
 use Rattle.drive_commands.specs.Generate.{gen_command, generated_setting, generated_text}
-use Rattle.drive_commands.proofs.GenDrive.{course-gen, course-gen_begun, course-gen_refused, setting_is, text_is}
+use Rattle.drive_commands.proofs.GenDrive.{course-gen, course-gen_refused, setting_is, text_is}
 use Rattle.call_ends.specs.declared.ending.Ended.TheVariants as ended
 use Rattle.drive_commands.proofs.generate.generate.Goals as goal
 
@@ -38,62 +38,32 @@ pub print-requires-clause-some : goal.print-requires-clause-some
 print-requires-clause-some g c =
     subst (λ (x : List ℕ). 0 < length x) (sym c.as_slice.ensures.value) c.summary-line.ensures.some
 
-pub returns-in-Ok-print : goal.returns-in-Ok-print
-returns-in-Ok-print g c = λ contents.
-    carries-kept (no_files contents) g.B.Printer (gen_command c.args.seed c.args.trips) tt tt c.args.board.now
-    c.print.new.self c.args.steps.now c.print.new.steps ended.Done (λ none. none) (λ status w. w)
-    (λ known.
-    let made = c.in-Ok.ensures.found in
-    let t = made.tree in
-    let printed = g.B.Printer.printed in
-    let text =
-    generated_text c.args.seed c.args.trips c.decimals-decimals.result c.state_of_drive-durable.result in
-    let is = setting_is t c.in-Ok.tables c.gen_seal-seal.result made.compiled
-    (made.value ∙ ap (tables_of made.tree) c.ten_thousand-constant.ensures)
-    c.gen_seal-seal.ensures.constant c.gen_seal-seal.ensures.mode c.gen_seal-seal.ensures.hold
-    c.gen_seal-seal.ensures.offsets in
-    course-gen c.args.seed c.args.trips contents contents (g.B.Printer.image c.args.board.now) _ _
-    g.B.Printer.tells_text
-    (printed c.args.board.now) (printed c.print.new.self) _ t
-    (subst (λ (x : List ℕ). tariff_in x ≡ Ok t) c.city_tariff-text.ensures made.sound)
-    (text_is c.args.seed c.args.trips c.decimals-decimals.result c.state_of_drive-durable.result t c.in-Ok.tables
-    (made.value ∙ ap (tables_of made.tree) c.ten_thousand-constant.ensures) c.decimals-decimals.ensures.value
-    (c.state_of_drive-durable.ensures.state (generated_setting t) is))
-    (λ tells. c.in-Ok-print.ensures.whole tells ∙ ap (λ (x : List ℕ). printed c.args.board.now ++ x) {y = text}
-    (◌∙◌ {c = text} c.as_slice.ensures.value c.summary-line.ensures.text)))
-    (λ later le. omega (arith, le, c.state_of_drive-durable.ensures.steps, c.print.ensures.step))
-    (λ e. absurd (done_not_read e))
-    (cause_done (c.in-Ok-print.ensures.cause.kept refl))
-    (λ word not. refl) (λ known word never. refl) (λ read good word. refl)
-    (keeps_print g.B.Printer c.args.board.now c.print.new.self _
-    c.print.ensures.image c.print.ensures.flight c.print.ensures.time)
-
 pub returns : goal.returns
 returns g c = λ contents.
-    carries-kept (no_files contents) g.B.Printer (gen_command c.args.seed c.args.trips) tt tt c.args.board.now
-    c.print.new.self c.args.steps.now c.print.new.steps ended.BoardFault (λ none. none) (λ status w. w)
-    (λ known.
     let made = c.in-Ok.ensures.found in
     let t = made.tree in
-    let printed = g.B.Printer.printed in
-    let text =
-    generated_text c.args.seed c.args.trips c.decimals-decimals.result c.state_of_drive-durable.result in
-    let is = setting_is t c.in-Ok.tables c.gen_seal-seal.result made.compiled
-    (made.value ∙ ap (tables_of made.tree) c.ten_thousand-constant.ensures)
+    let value = made.value ∙ ap (tables_of t) c.ten_thousand-constant.ensures in
+    let text = generated_text c.args.seed c.args.trips c.decimals-decimals.result c.state_of_drive-durable.result in
+    let is = setting_is t c.in-Ok.tables c.gen_seal-seal.result made.compiled value
     c.gen_seal-seal.ensures.constant c.gen_seal-seal.ensures.mode c.gen_seal-seal.ensures.hold
     c.gen_seal-seal.ensures.offsets in
-    course-gen_begun c.args.seed c.args.trips contents contents (g.B.Printer.image c.args.board.now) _ _
-    g.B.Printer.tells_text (printed c.args.board.now) (printed c.print.new.self) _ t
-    (subst (λ (x : List ℕ). tariff_in x ≡ Ok t) c.city_tariff-text.ensures made.sound)
-    (text_is c.args.seed c.args.trips c.decimals-decimals.result c.state_of_drive-durable.result t c.in-Ok.tables
-    (made.value ∙ ap (tables_of made.tree) c.ten_thousand-constant.ensures) c.decimals-decimals.ensures.value
-    (c.state_of_drive-durable.ensures.state (generated_setting t) is))
-    (λ tells. subst (λ (x : List ℕ). Begins (printed c.args.board.now) (printed c.print.new.self) x) {y = text}
-    (◌∙◌ {c = text} c.as_slice.ensures.value c.summary-line.ensures.text) (c.print.ensures.begun tells))
-    (c.print.ensures.cause.failed (ap is_err c.in-Err-print.is)))
-    (λ later le. omega (arith, le, c.state_of_drive-durable.ensures.steps, c.print.ensures.step))
-    (λ e. absurd (board_not_read e))
-    (cause_board (c.print.ensures.cause.failed (ap is_err c.in-Err-print.is)))
-    (λ word not. refl) (λ known word never. refl) (λ read good word. refl)
-    (keeps_print g.B.Printer c.args.board.now c.print.new.self _
-    c.print.ensures.image c.print.ensures.flight c.print.ensures.time)
+    let shown = text_is c.args.seed c.args.trips c.decimals-decimals.result c.state_of_drive-durable.result t
+    c.in-Ok.tables value c.decimals-decimals.ensures.value
+    (c.state_of_drive-durable.ensures.state (generated_setting t) is)
+    ∙ sym (◌∙◌ {c = text} c.as_slice.ensures.value c.summary-line.ensures.text) in
+    let p : Prints g.B.Printer c.as_slice.result.now 1 ended.Done c.args.board.now c.print.new.self
+    c.state_of_drive-durable.new.steps c.print.new.steps (end_printed c.print.result ended.Done) =
+    prints-by c.print.result c.print.ensures.whole c.print.ensures.begun c.print.ensures.cause
+    (omega (arith, c.print.ensures.step)) (keeps_print g.B.Printer c.args.board.now c.print.new.self _
+    c.print.ensures.image c.print.ensures.flight c.print.ensures.time) done_not_board in
+    rw c.ended_behind.ensures
+    (carries-kept (no_files contents) g.B.Printer (gen_command c.args.seed c.args.trips) tt tt c.args.board.now
+    c.print.new.self c.args.steps.now c.print.new.steps _ (λ none. none) (λ status w. w)
+    (λ known. ends-printed (gen_command c.args.seed c.args.trips) contents contents
+    (g.B.Printer.image c.args.board.now) _ c.as_slice.result.now ended.Done
+    (course-gen c.args.seed c.args.trips contents contents (g.B.Printer.image c.args.board.now) _ t
+    c.as_slice.result.now (subst (λ (x : List ℕ). tariff_in x ≡ Ok t) c.city_tariff-text.ensures made.sound) shown)
+    g.B.Printer p)
+    (λ later le. omega (arith, le, c.state_of_drive-durable.ensures.steps, p.steps))
+    (λ e. absurd (done_not_read (sym (p.ends (λ f. board_not_read (sym f ∙ e))) ∙ e))) p.cause
+    (λ word not. refl) (λ known word never. refl) (λ read good word. refl) p.store)
