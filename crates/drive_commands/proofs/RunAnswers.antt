@@ -3,13 +3,14 @@ use Rattle.std.proofs.Common.{[], ℕ, ◌++◌, ◌∙◌, ◌∷◌, ◌≡◌
 use Rattle.std.proofs.{Common.{length, refl, subst, sym}, lemmas.List.{append-nil, ext_get_or}}
 use Rattle.outside.specs.{Runs.{IsAtRest as NothingFlies}, declared.files.Files.{Ghosts as FileGhosts}}
 use Rattle.{outside.proofs.Laws.{begins_not}, slot_store.specs.Syncs.{IsAsHeld, ReadsOnly}}
-use Rattle.{slot_store.proofs.Laws.{from_sync_as}, totals_record.proofs.Laws.{changes_add_up}}
-use Rattle.meter_run.{specs.Points.{HasEntries}, proofs.Laws.{receipts_have_their_entries-run}}
-use Rattle.{call_ends.{specs.Stream.{TakesBytes}, proofs.Laws.{bytes-read}}, store_commands.proofs.Laws.{none}}
-use Rattle.drive_commands.specs.Common.{Answer, Answered, Begins, BoardFailed, Deed, Drive, Ended, EndsOnDevices}
-use Rattle.drive_commands.specs.Common.{Ghosts, HasState, IsCutOfDeeds, IsRefusal, LeavesFromSync, NoMemory, Prints}
-use Rattle.drive_commands.specs.Common.{ReadFailed, Rose, SameBut, after_deeds, line_in, line_of, opening_in}
-use Rattle.drive_commands.specs.{Common.{refused_as, status_of, texts}, RunSteps.{HasNotBegun, RunReachesLine}}
+use Rattle.{slot_store.proofs.Laws.{from_sync_as}, totals_record.specs.declared.change.Change.{Change}}
+use Rattle.{totals_record.proofs.Laws.{changes_add_up}, call_ends.{specs.Stream.{TakesBytes}, proofs.Laws.{bytes-read}}}
+use Rattle.meter_run.{specs.Points.{HasEntries}, proofs.Laws.{keeps_read, receipts_have_their_entries-run}}
+use Rattle.{store_commands.proofs.Laws.{none}, drive_commands.specs.RunSteps.{HasNotBegun, RunReachesLine}}
+use Rattle.drive_commands.specs.Common.{Answer, Answered, Begins, BoardFailed, CommitsInTurn, Deed, Drive, Ended}
+use Rattle.drive_commands.specs.Common.{EndsOnDevices, Ghosts, HasState, IsCutOfDeeds, IsRefusal, LeavesFromSync}
+use Rattle.drive_commands.specs.Common.{NoMemory, Prints, ReadFailed, Rose, SameBut, after_deeds, changes_of, line_in}
+use Rattle.drive_commands.specs.Common.{line_of, opening_in, refused_as, status_of, texts}
 use Rattle.drive_commands.specs.Run.{IsCutOfCourse, IsCutOfRun, IsOfTotals, StandsAfterRun, Start, bytes_in, deeds_in}
 use Rattle.drive_commands.specs.Run.{run_answer, run_command, setting_in, shown_in_run, start_at, start_of, tables_in}
 use Rattle.drive_commands.proofs.{RunCuts.{first_cut, last_cut}, RunStarts.{start_stands}}
@@ -116,6 +117,11 @@ module _ {E D L : Type 0} {N : ℕ} (F : FileGhosts E) (B : Ghosts D N L) (files
         settled = settled;
         unwritten = λ why e. bytes-read B old new reads;
         same = λ why e good. same good;
+        turn = λ s e good.
+            let nothing : changes_of (deeds_in s bytes) ≡ [] =
+            ap (λ (l : List ℕ). changes_of (deeds_in s l)) (no_bytes s e) in
+            subst (λ (l : List Change). CommitsInTurn B s.durable l old new) (sym nothing)
+            (keeps_read B old new reads (same good));
       }
 
   module _ (untouched : F.rest files' 2 ≡ F.rest files 2) (fails : Type 0) (reads : ReadsOnly B old new)

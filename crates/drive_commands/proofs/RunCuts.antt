@@ -3,10 +3,10 @@ use Rattle.{std.{specs.Option.{ForSome}, proofs.lemmas.List.{append-nil}}, slot_
 use Rattle.std.proofs.Common.{[], ℕ, ◌++◌, ◌∙◌, ◌∷◌, ◌≡◌, List, ap, append_assoc, arith, inl, refl, subst, sym}
 use Rattle.{outside.proofs.Laws.{begins_after, begins_more, begins_not}, totals_record.proofs.Laws.{changes_add_up}}
 use Rattle.{totals_record.specs.{Reading.{reads}, Sums.{GrowsBy}}, meter_store.specs.Stored.{state_number_of}}
-use Rattle.{meter_model.specs.declared.act.Act.TheVariants.{Receipt}, meter_run.specs.Deeds.{Does, changes_of}}
-use Rattle.meter_run.{specs.Points.{HasEntries}, proofs.Laws.{texts_joined}}
+use Rattle.{meter_model.specs.declared.act.Act.TheVariants.{Receipt}, meter_run.proofs.Laws.{texts_joined}}
+use Rattle.meter_run.specs.{Deeds.{Does}, Points.{HasEntries}}
 use Rattle.drive_commands.specs.Common.{Begins, Deed, Durable, Fits, HasState, IsCutOfDeeds, Prints, Seal, TableParts}
-use Rattle.drive_commands.specs.Common.{after_deeds, texts}
+use Rattle.drive_commands.specs.Common.{after_deeds, changes_of, texts}
 use Rattle.taxi_units.specs.declared.receipt.Receipt as receipts
 
 -- ---- lists

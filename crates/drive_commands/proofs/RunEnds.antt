@@ -5,18 +5,18 @@ use Rattle.outside.{specs.Runs.{IsAtRest as NothingFlies, KeepsStore, LeavesOnly
 use Rattle.{outside.specs.declared.files.Files.{Ghosts as FileGhosts}, slot_store.specs.Syncs.{IsAsHeld}}
 use Rattle.slot_store.{specs.Writes.{OrWithin}, proofs.Laws.{from_sync_as, goes_on, settled_already}}
 use Rattle.meter_run.specs.{OnStore.{HasBeside, WritesTotals}, Runs.{EndsRun, HasDone, HasStopped, RunsUpTo}}
-use Rattle.{meter_run.proofs.Laws.{left_has, settled_has}, call_ends.specs.Unwritten.{LeavesUnwritten}}
-use Rattle.call_ends.{specs.Call.{IsCall, IsEnd}, proofs.Laws.{board_or_not}}
-use Rattle.drive_commands.specs.Common.{Answer, Answered, BadAt, Begins, BoardFailed, Durable, Ended, Endless, Ghosts}
-use Rattle.drive_commands.specs.Common.{IsCutOfDeeds, IsSettingOf, LeavesFromSync, OpensWith, Prints, ReadFailed, Rose}
-use Rattle.drive_commands.specs.Common.{RunFault, SameBut, StreamEnd, Whole, after_deeds, drive_end, line_in, line_of}
-use Rattle.drive_commands.specs.{Common.{opening_in, status_of, texts}, DriveEnds.{ended_by}, Run.{start_of, tables_in}}
-use Rattle.drive_commands.specs.Fare.{drive_answer}
+use Rattle.{meter_run.proofs.Laws.{left_has, settled_has, turn_behind, turn_kept}, call_ends.specs.Call.{IsCall, IsEnd}}
+use Rattle.call_ends.{specs.Unwritten.{LeavesUnwritten}, proofs.Laws.{board_or_not}}
+use Rattle.drive_commands.specs.Common.{Answer, Answered, BadAt, Begins, BoardFailed, CommitsInTurn, Durable, Ended}
+use Rattle.drive_commands.specs.Common.{Endless, Ghosts, IsCutOfDeeds, IsSettingOf, LeavesFromSync, OpensWith, Prints}
+use Rattle.drive_commands.specs.Common.{ReadFailed, Rose, RunFault, SameBut, StreamEnd, Whole, after_deeds, changes_of}
+use Rattle.drive_commands.specs.Common.{drive_end, line_in, line_of, opening_in, status_of, texts}
+use Rattle.drive_commands.{specs.{DriveEnds.{ended_by}, Fare.{drive_answer}}, proofs.RunStarts.{starts_again}}
 use Rattle.drive_commands.specs.Run.{IsCutOfCourse, IsCutOfRun, IsCutOfStart, IsOfTotals, IsRun, StandsAfterRun, Start}
 use Rattle.drive_commands.specs.Run.{bytes_in, deeds_in, run_answer, run_command, setting_in, shown_in_run, start_at}
-use Rattle.drive_commands.{specs.RunSteps.{RunReachesLine}, proofs.TariffDrives.{end_of-status, left-whole, one_of}}
+use Rattle.drive_commands.{specs.Run.{start_of, tables_in}, proofs.TariffDrives.{end_of-status, left-whole, one_of}}
+use Rattle.drive_commands.{specs.RunSteps.{RunReachesLine}, proofs.RunCuts.{cut_begins, last_cut, longer_cut}}
 use Rattle.drive_commands.proofs.RunAnswers.{found-held, outside_then, run_entries, same_outside}
-use Rattle.drive_commands.proofs.{RunCuts.{cut_begins, last_cut, longer_cut}, RunStarts.{starts_again}}
 use Rattle.meter_run.specs.declared.fault.RunFault.TheVariants as faults
 use Rattle.call_ends.specs.declared.ending.Ended.TheVariants as ended
 
@@ -40,7 +40,7 @@ module _ {E D L : Type 0} {N : ℕ} (F : FileGhosts E) (B : Ghosts D N L) (files
   module _ (told : B.tells_image) (is : IsSettingOf (setting_in s) (tables_in s) s.seal)
       (opens : OpensWith B (tables_in s) mid s.durable) (fails : Type 0) (went : ¬ fails)
       (synced : LeavesFromSync B fails old mid (IsAsHeld B old)) (settled : NothingFlies B mid)
-      (same : B.image mid ≡ B.image old) (text : B.printed mid ≡ B.printed old)
+      (same : B.image mid ≡ B.image old) (text : B.printed mid ≡ B.printed old) (kept : KeepsStore B old mid)
       (beside : WritesTotals B mid new) where
     -- the bytes of the seal
     not_flying : (place : ℕ) → ¬ (IsOfTotals place) → ¬ (OrWithin (B.in_flight mid) 0 1024 place)
@@ -111,6 +111,16 @@ module _ {E D L : Type 0} {N : ℕ} (F : FileGhosts E) (B : Ghosts D N L) (files
           ⊎_elim (settled place) (λ (within : IsOfTotals place). done.opens.settled.quiet place within flies)
           (beside.flight place flies)
 
+    turn_by : (bytes : List ℕ) → HasDone B (tables_in s) s.seal mid new s.durable (deeds_in s bytes) → (t : Start)
+        → start_at F B files old ≡ Ok t → CommitsInTurn B t.durable (changes_of (deeds_in t bytes)) old new
+    turn_by bytes done t e = subst (λ (x : Start). CommitsInTurn B x.durable (changes_of (deeds_in x bytes)) old new)
+        (one_start (start_at F B files old) begins e)
+        (turn_kept B old mid new s.durable (changes_of (deeds_in s bytes)) kept done.turn)
+      where
+        one_start : {other : Start} (r : Result Start Ended) → r ≡ Ok s → r ≡ Ok other → s ≡ other
+        one_start (Ok x) a b = cc
+        one_start (Err w) a b = cc
+
     not_refused : (why : Ended) → start_at F B files old ≡ Err why → ⊥
     not_refused why e = by (start_at F B files old) begins e
       where
@@ -168,6 +178,7 @@ module _ {E D L : Type 0} {N : ℕ} (F : FileGhosts E) (B : Ghosts D N L) (files
             settled = λ not_board. settled-done drive (line_of end) done;
             unwritten = λ why f. absurd (not_refused why f);
             same = λ why f. absurd (not_refused why f);
+            turn = λ t e not_board. turn_by drive done t e;
           }
 
       -- by how the run of the drive ended
@@ -207,6 +218,7 @@ module _ {E D L : Type 0} {N : ℕ} (F : FileGhosts E) (B : Ghosts D N L) (files
             settled = λ not_board. settled-done h.taken (line_of ended.ReadFault) done;
             unwritten = λ why f. absurd (not_refused why f);
             same = λ why f. absurd (not_refused why f);
+            turn = λ t e not_board. turn_by h.taken done t e;
           }
       ran-comes (Err faults.BoardFault) h read_cause board_cause =
           let part : HasStopped B (tables_in s) s.seal mid new s.durable (deeds_in s h.taken) =
@@ -234,6 +246,7 @@ module _ {E D L : Type 0} {N : ℕ} (F : FileGhosts E) (B : Ghosts D N L) (files
             settled = λ not_board. absurd (not_board refl);
             unwritten = λ why f. absurd (not_refused why f);
             same = λ why f. absurd (not_refused why f);
+            turn = λ t e not_board. absurd (not_board refl);
           }
 
 -- a run whose drive was carried out may have written
@@ -313,4 +326,7 @@ module _ {E D L : Type 0} {N : ℕ} (F : FileGhosts E) (B : Ghosts D N L) (files
           bytes = bytes (h.unwritten why e);
           same = λ not_8. kept.same ∙ h.same why e (not_board not_8 ends);
         };
+        turn = λ s e not_8. rw course (turn_behind B old mid new s.durable
+            (changes_of (deeds_in s (bytes_in h.comes.course (F.rest files 2))))
+            (h.turn s e (not_board not_8 ends)) kept);
       }

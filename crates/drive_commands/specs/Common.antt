@@ -9,13 +9,14 @@ pub use Rattle.drive_text.specs.Ending.{BadAt, Endless, IsGoing, IsSplit, Stream
 pub use Rattle.totals_record.specs.{States.{first_state}, declared.durable_state.Durable.{Durable}}
 pub use Rattle.seal_record.specs.declared.{params.{ParamFault.{ParamFault}, Params.{Params}}, seal.Seal.{Seal}}
 pub use Rattle.{meter_store.specs.Stored.{HasState}, tariff_syntax.specs.Tree.{Tree, tree_of}}
-pub use Rattle.{tariff_compile.specs.Tables.{IsTablesOf, TableParts, tables_of}, meter_run.specs.Points.{IsCutOfDeeds}}
+pub use Rattle.{tariff_compile.specs.Tables.{IsTablesOf, TableParts, tables_of}, meter_run.specs.InTurn.{CommitsInTurn}}
 pub use Rattle.{meter_model.specs.Setting.{Setting, setting_by}, meter_states.specs.Fits.{Fits, fits_test}}
-pub use Rattle.{meter_states.specs.Setting.{IsSettingOf}, meter_run.specs.Deeds.{Deed, Prints, after_deeds, texts}}
-pub use Rattle.meter_run.specs.{Drives.{IsBoundedByDrive}, declared.{fault.RunFault.{RunFault}, source.Stop.{Stop}}}
-pub use Rattle.{meter_run.specs.Runs.{OpensWith}, verify_bench.specs.declared.reading.ReadingsFault.{ReadingsFault}}
-pub use Rattle.verify_bench.specs.{Generated.{generated}, Readings.{readings_in}, declared.reading.Reading.{Reading}}
+pub use Rattle.{meter_states.specs.Setting.{IsSettingOf}, meter_run.specs.declared.fault.RunFault.{RunFault}}
+pub use Rattle.meter_run.specs.{Deeds.{Deed, Prints, after_deeds, changes_of, texts}, declared.source.Stop.{Stop}}
+pub use Rattle.meter_run.specs.{Drives.{IsBoundedByDrive}, Points.{IsCutOfDeeds}, Runs.{OpensWith}}
+pub use Rattle.verify_bench.specs.{Generated.{generated}, Readings.{readings_in}}
 pub use Rattle.verify_bench.specs.TripExplanations.{Explanation, explanation_of, explanations_of}
+pub use Rattle.verify_bench.specs.declared.reading.{Reading.{Reading}, ReadingsFault.{ReadingsFault}}
 pub use Rattle.call_ends.specs.{Answer.{Answer, shows}, Carried.{Carries}, Tariffs.{bad_tariff, tariff_in}}
 pub use Rattle.call_ends.specs.{Course.{Answered, BoardFailed, Command, NoMemory, ReadFailed, line_in}, Stream.{Drive}}
 pub use Rattle.call_ends.specs.{Ending.{EndsOnDevices, IsRefusal, ended_for}, LastLine.{line_of, refused_as, status_of}}

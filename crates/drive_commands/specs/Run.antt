@@ -4,12 +4,13 @@ use Rattle.std.specs.Prelude.{[], ℕ, ◌++◌, ◌∷◌, ◌≡◌, ◌≢◌
 use Rattle.{taxi_units.specs.Test.{if_some}, outside.specs.declared.files.Files.{Ghosts as FileGhosts}}
 use Rattle.{outside.specs.{Disk.{IsWithin}, Runs.{IsAtRest, LeavesOnly}}, totals_record.specs.declared.trip.Trip.{Trip}}
 use Rattle.{meter_run.specs.Runs.{run_deeds}, call_ends.specs.{Course.{Course}, Unwritten.{WritesNothing}}}
-use Rattle.{call_ends.specs.Call.{IsCall}, drive_commands.specs.{Common.{tariff_in, texts}, Fare.{drive_answer}}}
-use Rattle.drive_commands.specs.Common.{Answer, Answered, Begins, BoardFailed, Command, Deed, Drive, Durable, Ended}
-use Rattle.drive_commands.specs.Common.{Ghosts, HasState, IsBoundedByDrive, IsCutOfDeeds, IsGoing, IsSealedIn}
-use Rattle.drive_commands.specs.Common.{LeavesFromSync, NoMemory, Opening, Prints, ReadFailed, Refusal, SameBut, Seal}
-use Rattle.drive_commands.specs.Common.{Setting, StoreFault, TableParts, TooLong, Tree, after_deeds, drive_end}
-use Rattle.drive_commands.specs.Common.{fits_test, line_in, opening_in, refused_as, setting_by, store_of, tables_of}
+use Rattle.{call_ends.specs.Call.{IsCall}, drive_commands.specs.Common.{store_of, tables_of, tariff_in, texts}}
+use Rattle.drive_commands.specs.Common.{Answer, Answered, Begins, BoardFailed, Command, CommitsInTurn, Deed, Drive}
+use Rattle.drive_commands.specs.Common.{Durable, Ended, Ghosts, HasState, IsBoundedByDrive, IsCutOfDeeds, IsGoing}
+use Rattle.drive_commands.specs.Common.{IsSealedIn, LeavesFromSync, NoMemory, Opening, Prints, ReadFailed, Refusal}
+use Rattle.drive_commands.specs.Common.{SameBut, Seal, Setting, StoreFault, TableParts, TooLong, Tree, after_deeds}
+use Rattle.drive_commands.specs.Common.{changes_of, drive_end, fits_test, line_in, opening_in, refused_as, setting_by}
+use Rattle.drive_commands.specs.Fare.{drive_answer}
 use Rattle.call_ends.specs.declared.ending.Ended.TheVariants as ended
 
 -- ---- how a run begins
@@ -165,7 +166,9 @@ module _ {E D L : Type 0} {N : ℕ} (F : FileGhosts E) (B : Ghosts D N L) where
   -- unless the board failed. A cut of the power from the opening sync on leaves a place in the list of what the run
   -- does; one before that sync has succeeded leaves what it might have left before the call. If nothing was in flight
   -- before the call, a cut at any moment of it leaves such a place. The next run under the same tariff begins over what
-  -- such a cut leaves. If the store or the tariff is refused, nothing is written, whatever the answer is.
+  -- such a cut leaves. If the store or the tariff is refused, nothing is written, whatever the answer is. Else, unless
+  -- the board failed, the commits in turn are all that was written: each goes into the slot without the state before
+  -- it, so the other slot stays as it is up to the next commit, and without a commit the store is kept.
   pub record IsRun (files files' : E) (old new : D) (ended : ℕ) : Type 0 where
     pub call : IsCall F B run_command files files' old new ended
     pub stands : ended ≢ 8
@@ -178,3 +181,5 @@ module _ {E D L : Type 0} {N : ℕ} (F : FileGhosts E) (B : Ghosts D N L) where
         → (durable : Durable)
         × (start_of (opening_in left_image) (F.rest files 1) ≡ Ok (record start { durable = durable }))
     pub unwritten : (why : Ended) → start_at files old ≡ Err why → WritesNothing B old new ended
+    pub turn : (start : Start) → start_at files old ≡ Ok start → ended ≢ 8
+        → CommitsInTurn B start.durable (changes_of (deeds_in start (bytes_in call.course (F.rest files 2)))) old new

@@ -1,12 +1,13 @@
 -- For proofs: what the command `run` has before its last line is printed. Run says what a run is.
 use Rattle.std.specs.Prelude.{ℕ, ◌≡◌, ◌≢◌, Err, List, Ok}
 use Rattle.outside.specs.{Runs.{IsAtRest, MayHold}, declared.files.Files.{Ghosts as FileGhosts}}
-use Rattle.{call_ends.specs.Unwritten.{LeavesUnwritten}, drive_commands.specs.Run.{start_at, start_of, tables_in}}
+use Rattle.call_ends.specs.Unwritten.{LeavesUnwritten}
 use Rattle.call_ends.specs.declared.ending.Ended.TheVariants.{BadTariff, NoMemory, WrongTariff}
-use Rattle.drive_commands.specs.Common.{Begins, BoardFault, Ended, EndsOnDevices, Ghosts, IsRefusal, IsSealedIn}
-use Rattle.drive_commands.specs.Common.{IsTablesOf, LeavesFromSync, OpensWith, ReadFault, Seal, TableParts, Tree}
-use Rattle.drive_commands.specs.Common.{line_of, opening_in, status_of, tables_of, tariff_in}
-use Rattle.drive_commands.specs.Run.{IsCutOfCourse, StandsAfterRun, Start, bytes_in, run_command, sealed_tariff}
+use Rattle.drive_commands.specs.Common.{Begins, BoardFault, CommitsInTurn, Ended, EndsOnDevices, Ghosts, IsRefusal}
+use Rattle.drive_commands.specs.Common.{IsSealedIn, IsTablesOf, LeavesFromSync, OpensWith, ReadFault, Seal, TableParts}
+use Rattle.drive_commands.specs.Common.{Tree, changes_of, line_of, opening_in, status_of, tables_of, tariff_in}
+use Rattle.drive_commands.specs.Run.{IsCutOfCourse, StandsAfterRun, Start, bytes_in, deeds_in, run_command}
+use Rattle.drive_commands.specs.Run.{sealed_tariff, start_at, start_of, tables_in}
 
 -- ---- the tables of the sealed tariff
 
@@ -68,3 +69,5 @@ module _ {E D L : Type 0} {N : ℕ} (F : FileGhosts E) (B : Ghosts D N L) where
     pub settled : ended ≢ BoardFault → IsAtRest B new
     pub unwritten : (why : Ended) → start_at F B files old ≡ Err why → LeavesUnwritten B old new
     pub same : (why : Ended) → start_at F B files old ≡ Err why → ended ≢ BoardFault → B.image new ≡ B.image old
+    pub turn : (start : Start) → start_at F B files old ≡ Ok start → ended ≢ BoardFault
+        → CommitsInTurn B start.durable (changes_of (deeds_in start (bytes_in comes.course (F.rest files 2)))) old new

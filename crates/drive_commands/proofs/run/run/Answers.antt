@@ -1,9 +1,10 @@
-use Rattle.{std.specs.Prelude.{IsErrOf}, meter_run.specs.Runs.{EndsRun}, drive_commands.specs.RunSteps.{RunReachesLine}}
+use Rattle.{std.specs.Prelude.{IsErrOf}, meter_run.{specs.Runs.{EndsRun}, proofs.Laws.{keeps_read}}}
 use Rattle.std.proofs.Common.{[], ℕ, ◌∙◌, ◌≡◌, ◌≢◌, Err, List, ap, arith, inl, inr, refl, subst, sym, ⊎_elim}
 use Rattle.call_ends.proofs.Laws.{bytes-read, no_fault, same_fault, stops_at}
 use Rattle.drive_commands.specs.Common.{Ended, IsSettingOf, IsTablesOf, OpensWith, Seal, TableParts, status_of}
-use Rattle.drive_commands.{specs.DriveEnds.{ended_by}, proofs.RunAnswers.{course-not_begun}}
+use Rattle.drive_commands.specs.DriveEnds.{ended_by}
 use Rattle.drive_commands.{specs.Run.{run_command, setting_in, tables_in}, proofs.RunEnds.{ran-comes, ran-writes}}
+use Rattle.drive_commands.{specs.RunSteps.{RunReachesLine}, proofs.RunAnswers.{course-not_begun}}
 use Rattle.drive_commands.proofs.TariffDrives.{begins_going, board_fault-ran, read_fault-ran}
 use Rattle.call_ends.specs.declared.ending.Ended.TheVariants as ended
 use Rattle.drive_commands.proofs.run.run.Goals as goal
@@ -94,6 +95,7 @@ returns-clause-runs g c = λ tells told.
     (ran-comes g.F.Files g.B.Printer files c.run_events-ran.new.files old mid new s begun.is told is opens
     (IsErrOf c.begin.result ended.BoardFault) went
     (before.opens.synced told) (before.opens.settled told went) (before.opens.same went) before.opens.reads.text
+    (keeps_read g.B.Printer old mid before.opens.reads (before.opens.same went))
     (c.run_events-ran.ensures.beside told) read c.run_events-ran.result ends
     (λ e. omega (
       arith,
