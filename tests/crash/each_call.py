@@ -24,10 +24,6 @@ ERRORS = [
 ]
 
 
-def errors_of(name):
-    return next((errors.split() for names, errors in ERRORS if re.fullmatch(names, name)), [])
-
-
 class Trial:
     """How many calls were tried, what was off, and what could not be tried."""
 
@@ -95,7 +91,7 @@ class Subject:
         """Lets each call fail, with each error. Where the call ends with 0 it prints what it prints whole."""
         self.found, tried, passed = {}, 0, 0
         for name, number in self.calls():
-            for error in errors_of(name):
+            for error in next((errors.split() for names, errors in ERRORS if re.fullmatch(names, name)), []):
                 self.break_off(f"{name}:error={error}:when={number}")
                 what = f"{self.what}, {name} {number} fails with {error}"
                 self.trial.expect(self.is_told(), f"{what}: status {self.status} tells {self.told}")

@@ -92,7 +92,7 @@ class Kit:
         """Looks for a hiring that tells a turn; tells whether the turned tariff is a wrong one."""
         found = self.search.tell(turn)
         if found.reason in ("SAME", "unsound"):
-            self.matrix.forget(case)
+            del self.matrix.rows[case.title], self.matrix.cases[case.title]
             return False
         if found.level > self.matrix.top(case):
             self.matrix.tried(case, [self.matrix.add(found.hiring)])

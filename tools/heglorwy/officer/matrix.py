@@ -52,9 +52,6 @@ class Matrix:
         self.rows[case.title], self.cases[case.title] = row, case
         return row
 
-    def forget(self, case):
-        del self.rows[case.title], self.cases[case.title]
-
     def top(self, case):
         """The best level at which a case is told, as far as it was tried."""
         return max(self.rows.get(case.title, {}).values(), default=NOT_TOLD)
