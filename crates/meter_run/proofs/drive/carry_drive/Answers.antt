@@ -30,7 +30,6 @@ returns-in_err-stop g c = record {
   ready = not_ok _ c.from_residual.result _ c.from_residual.ensures.1;
   carried = not_ok _ c.from_residual.result _ c.from_residual.ensures.1;
   broke_off =
-      let r = c.args.by.now in
       let m = c.args.meter.now in
       let b = c.args.board.now in
       let s = c.loop-stop.invariant.up_to in
@@ -39,7 +38,7 @@ returns-in_err-stop g c = record {
       on_err c.from_residual.result _
       (breaks_as g.F.Files.tells g.F.Files.tells drive (s.taken ++ rest)
       (g.F.Files.rest c.carry_piece.new.files c.args.word)
-      (λ (es : List Event). g.C.Carrier.broke_off r m b es c.carry_piece.new.board) c.args.steps.now
+      (λ (es : List Event). g.C.Carrier.broke_off c.args.by.now m b es c.carry_piece.new.board) c.args.steps.now
       c.carry_piece.new.steps (λ t. t) (λ t. sym (s.split t))
       (c.in_err-stop.ensures.broke_off m b c.args.steps.now s.taken s.through s.done));
   cause = went_wrong _ _ _ _ c.from_residual.result c.from_residual.ensures.0
@@ -55,7 +54,6 @@ returns-in-Some-clause-ready g c = c.in_ok-stop.ensures.ready
 
 pub returns-in-Some-clause-carried : goal.returns-in-Some-clause-carried
 returns-in-Some-clause-carried g c =
-    let r = c.args.by.now in
     let m = c.args.meter.now in
     let b = c.args.board.now in
     let s = c.loop-stop.invariant.up_to in
@@ -64,7 +62,8 @@ returns-in-Some-clause-carried g c =
     let stops = rw c.in-Some.is at c.in_ok-stop.ensures.stops in
     takes_as g.F.Files.tells g.F.Files.tells drive (s.taken ++ rest)
     (g.F.Files.rest c.carry_piece.new.files c.args.word)
-    c.in-Some.stop (λ (es : List Event). g.C.Carrier.carried r m b es c.carry_piece.new.meter c.carry_piece.new.board)
+    c.in-Some.stop (λ (es : List Event). g.C.Carrier.carried c.args.by.now m b es c.carry_piece.new.meter
+    c.carry_piece.new.board)
     c.args.steps.now c.carry_piece.new.steps (λ t. t) (λ t. sym (s.split t))
     (stops m b c.args.steps.now s.taken s.through s.done)
 

@@ -51,10 +51,7 @@ returns-in-Err-drop_at_end g c = record {
       let t = c.args.tables.now in
       let k = c.args.seal.now in
       let h = c.in-Ok.ensures.carried in
-      breaks g.B.Printer.tells_text t k (g.F.Files.rest c.args.files.now c.args.word)
-      (g.F.Files.rest c.carry_drive.new.files c.args.word) (g.B.Printer.printed c.args.board.now)
-      (g.B.Printer.printed c.drop_at_end.new.board)
-      h.taken h.few (h.split tells)
+      breaks _ _ _ _ _ _ _ h.taken h.few (h.split tells)
       (end_begun g.B.Printer t k c.new-meter.result c.args.board.now c.new-meter.ensures.off c.new-meter.ensures.first
       (events_in h.taken) c.carry_drive.new.meter c.carry_drive.new.board c.drop_at_end.new.board
       h.carried c.drop_at_end.ensures.begun);
@@ -78,10 +75,7 @@ returns-in-Err g c = record {
       let t = c.args.tables.now in
       let k = c.args.seal.now in
       let h = c.in-Err.ensures.broke_off in
-      breaks g.B.Printer.tells_text t k (g.F.Files.rest c.args.files.now c.args.word)
-      (g.F.Files.rest c.carry_drive.new.files c.args.word) (g.B.Printer.printed c.args.board.now)
-      (g.B.Printer.printed c.carry_drive.new.board)
-      h.taken h.few (h.split tells)
+      breaks _ _ _ _ _ _ _ h.taken h.few (h.split tells)
       (run_begun g.B.Printer t k c.new-meter.result c.args.board.now c.new-meter.ensures.off c.new-meter.ensures.first
       (events_in h.taken) c.carry_drive.new.board h.broke_off);
   steps = broken_whole c.in-Err.ensures.broke_off;

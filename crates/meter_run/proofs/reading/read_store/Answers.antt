@@ -1,10 +1,10 @@
-use Rattle.{std.{specs.{Option.{ForSome}, Prelude.{IfOk}}, proofs.Common.{sym, true}}, meter_run.specs.Points.{GoesBy}}
-use Rattle.std.proofs.Common.{[], ℕ, ◌+◌, ◌≡◌, ◌≤◌, Err, List, None, Ok, Option, Result, Some, ap, arith, false, subst}
+use Rattle.{std.{specs.{Option.{ForSome}, Prelude.{IfOk}}, proofs.Common.{true}}, totals_record.specs.Reading.{reads}}
+use Rattle.std.proofs.Common.{[], ℕ, ◌+◌, ◌≡◌, ◌≤◌, Err, None, Ok, Option, Result, Some, ap, arith, false, subst, sym}
 use Rattle.slot_store.specs.{Scan.{IsAsFound, IsValidFinding}, declared.found.{Found.{Found}, SlotFault.{SlotFault}}}
-use Rattle.{totals_record.specs.Reading.{reads}, meter_run.proofs.{EventLists.{went_well}, SettledScans.{same_number}}}
 use Rattle.meter_run.specs.Common.{Durable, Fits, HasCause, HoldsState, IsDurable, KeepsStore, Known, Place, Seal}
-use Rattle.meter_run.{specs.Common.{state_number_of}, proofs.BoardDeeds.{beside_scan, keeps_read, scan_point}}
-use Rattle.meter_run.{specs.OnStore.{Agrees, WritesTotals}, proofs.reading.read_store.Goals.{After-scan}}
+use Rattle.meter_run.{specs.Common.{state_number_of}, proofs.{EventLists.{went_well}, SettledScans.{same_number}}}
+use Rattle.meter_run.specs.{OnStore.{Agrees, WritesTotals}, Points.{GoesBy}}
+use Rattle.meter_run.proofs.{BoardDeeds.{beside_scan, keeps_read, scan_point}, reading.read_store.Goals.{After-scan}}
 use Rattle.meter_run.proofs.SettledScans.{HasNone, IsExact, IsFailure, answers, bad_body, found_is, no_fault, not_blank}
 use Rattle.meter_run.proofs.reading.read_store.Given as given
 use Rattle.meter_run.proofs.reading.read_store.Goals as goal
@@ -88,12 +88,12 @@ returns-in-Ok-Latest g c =
           let p = c.in-Ok-Latest.place in
           let b = c.in-Ok-Latest.body in
           let e = found_is c.in-Ok-Latest.field-0 p b place d (g.B.Printer.image c.args.board.now)
-              c.in-Ok-Latest.field-0-is
+          c.in-Ok-Latest.field-0-is
           settled.is_at (c.in-Ok-Latest.ensures.exact told (answers c.in-Ok-Latest.field-0)) in (
             record { durable = b; place = p },
             (
               c.where_it_fits.ensures.finds
-              (subst (λ (x : Durable). ForSome x.hold (Fits c.args.tables.now)) (sym e) fits),
+                  (subst (λ (x : Durable). ForSome x.hold (Fits c.args.tables.now)) (sym e) fits),
               e,
             ),
           );
