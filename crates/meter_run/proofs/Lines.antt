@@ -1,14 +1,25 @@
 -- Lines that are printed: which text they have, and that it isn't empty.
-use Rattle.{std.specs.{Fmt.{decimal}, Prelude.{codes}}, taxi_units.specs.declared.receipt.Receipt.{Receipt}}
-use Rattle.std.proofs.Common.{[], ℕ, ◌++◌, ◌<◌, ◌∙◌, ◌≡◌, ◌≢◌, ◌≤◌, List, ap, arith, length, length-append, refl}
-use Rattle.{taxi_units.specs.declared.event.Why.{Why}, receipt_text.proofs.Laws.{receipts_are_their_texts, short_texts}}
+use Rattle.std.{specs.{Fmt.{decimal}, Prelude.{codes}}, proofs.Common.{sym}}
+use Rattle.std.proofs.Common.{[], ℕ, ◌++◌, ◌<◌, ◌∙◌, ◌≡◌, ◌≢◌, ◌≤◌, List, ap, arith, length, length-append, refl, subst}
+use Rattle.taxi_units.specs.declared.{event.Why.{Why}, receipt.Receipt.{Receipt}}
 use Rattle.receipt_text.specs.{Part.{Part}, Receipts.{body_text, heading_text, kind_text, part_text, receipt_text}}
 use Rattle.receipt_text.specs.{Spelling.{IsSpelled}, Texts.{amounts_text, display_line, place_text, why_text}}
+use Rattle.receipt_text.proofs.Laws.{receipts_are_their_texts, short_texts}
 use Rattle.meter_run.specs.Common.{Display, ForHire, Hired, Off, Operating, Stopped, display_text, refusal_text}
 
 -- a line has the text that was put into it when it was empty
 pub has_text : (old new line text : List ℕ) → line ≡ new → new ≡ old ++ text → old ≡ [] → line ≡ text
 has_text old new line text value is none = value ∙ is ∙ ap (λ (xs : List ℕ). xs ++ text) none
+
+-- it can be printed if the text can
+pub fits_line : (old new line text : List ℕ) → line ≡ new → new ≡ old ++ text → old ≡ [] → 0 < length text
+    → length text ≤ 512 → record { some : 0 < length line; few : length line ≤ 512 }
+fits_line old new line text value is none some few =
+    let same : text ≡ line = sym (has_text old new line text value is none) in
+    record {
+      some = subst (λ (bytes : List ℕ). 0 < length bytes) same some;
+      few = subst (λ (bytes : List ℕ). length bytes ≤ 512) same few;
+    }
 
 line_some : (operating : Operating) (d : Display) → operating ≢ Off → 0 < length (display_line operating d)
 line_some Off d on = absurd (on refl)

@@ -14,6 +14,17 @@ nothing = Ok Blank
 abbrev fails : SlotFault → Result (Found Durable) SlotFault
 fails fault = Err fault
 
+-- an answer is exact of an image; it is one that no image with a state has; and it is the board's failure
+abbrev pub IsExact : Result (Found Durable) SlotFault → List ℕ → Type 0
+IsExact r image = r ≡ found_at reads state_number_of 0 image
+
+abbrev pub HasNone : Result (Found Durable) SlotFault → Type 0
+HasNone r = (place : Place) (d : Durable) (image : List ℕ) → IsAt reads state_number_of 0 place image d
+    → IsExact r image → ⊥
+
+abbrev pub IsFailure : Result (Found Durable) SlotFault → Type 0
+IsFailure r = r ≡ fails DeviceFailed
+
 -- the answer to an image in which the latest state is at a place
 answered : (place : Place) (d : Durable) (image : List ℕ) → IsAt reads state_number_of 0 place image d
     → found_at reads state_number_of 0 image ≡ Ok (Latest place d)

@@ -1,11 +1,13 @@
 -- The supply behind events: a meter is off without it, and the steps of a drive with the supply drop at its end.
 use Rattle.std.proofs.Common.{[], ℕ, ◌*◌, ◌+◌, ◌∙◌, ◌∷◌, ◌≡◌, ◌≢◌, ◌≤◌, Bool, List, None, ap, arith, false, inl, inr}
-use Rattle.std.proofs.{Common.{refl, subst, suc, sym, true, zero}, lemmas.Bool.{ne_eqb}}
-use Rattle.meter_run.{specs.{BetweenEvents.{StandsWith}, OnStore.{IsMeterReadyOn}}, proofs.SupplyDrop.{begins, off_of}}
+use Rattle.std.proofs.{Common.{length, refl, subst, suc, sym, true, zero}, lemmas.Bool.{ne_eqb}}
+use Rattle.meter_run.specs.BetweenEvents.{StandsWith}
 use Rattle.meter_run.specs.Common.{Act, CachedCore, Clock, CoreData, Down, Durable, Event, ForHire, Ghosts, Hired}
 use Rattle.meter_run.specs.Common.{IsSettingOf, Key, Meets, Meter, Off, Operating, Outcome, Pulses, Seal, Setting}
-use Rattle.meter_run.specs.Common.{Stands, Stopped, StoreMeter, TableParts, Tick, Up, first_state, interval_events}
-use Rattle.meter_run.specs.{Common.{intervals_events, opened, run, step, step_in}, Dry.{CarriesEvents, IsMeterReady}}
+use Rattle.meter_run.specs.Common.{Stands, Stopped, StoreMeter, TableParts, Tick, Up, events_in, first_state}
+use Rattle.meter_run.specs.Common.{interval_events, intervals_events, opened, run, step, step_in}
+use Rattle.meter_run.specs.{Drives.{BreaksDrive, IsBoundedByDrive, TakesDrive}, Dry.{CarriesEvents, IsMeterReady}}
+use Rattle.meter_run.{specs.{OnStore.{IsMeterReadyOn}, declared.source.Stop.{Stop}}, proofs.SupplyDrop.{begins, off_of}}
 use Rattle.meter_run.specs.{Supply.{StaysOff, drop_steps, is_supplied, is_supplied_after}, SupplyLaws.{supplied_joined}}
 use Rattle.meter_run.{specs.declared.dry.DryMeter.{DryMeter}, proofs.EventOnStore.{refused_event, unknown_off}}
 
@@ -109,10 +111,26 @@ dry_off B tables seal x a y b events ready off first carried none =
     (off_behind s events m false (λ unsupplied. refl) none)
 
 -- a drive of so many events, and then the drop, which takes nothing without the supply
-pub drop_bounded : (events : List Event) (n before mid now : ℕ) → mid ≤ before + 64 * n → now ≤ mid + 64
+drop_bounded : (events : List Event) (n before mid now : ℕ) → mid ≤ before + 64 * n → now ≤ mid + 64
     → (is_supplied false events ≡ false → now ≡ mid) → now ≤ before + 0 + 64 * n + drop_steps events
 drop_bounded events n before mid now first most idle = by (is_supplied false events) refl
   where
     by : (supplied : Bool) → is_supplied false events ≡ supplied → now ≤ before + 0 + 64 * n + drop_steps events
     by true is = let drops : drop_steps events ≡ 64 = rw is refl in omega (arith, first, most, drops)
     by false is = let none : now ≡ mid = idle is in omega (arith, first, none)
+
+pub drop_whole : {told : Type 0} {drive left : List ℕ} {stop : Stop} {carried : List Event → Type 0} {before mid : ℕ}
+    (now : ℕ) (h : TakesDrive told drive left stop carried before mid) → now ≤ mid + 64
+    → (carried (events_in h.taken) → is_supplied false (events_in h.taken) ≡ false → now ≡ mid)
+    → IsBoundedByDrive 0 told drive left before now
+drop_whole {before = before} {mid = mid} now h most idle = record {
+  taken = h.taken;
+  few = h.few;
+  split = h.split;
+  bound = drop_bounded (events_in h.taken) (length (events_in h.taken)) before mid now h.bounded most (idle h.carried);
+}
+
+-- without the drop
+pub broken_whole : {told : Type 0} {drive left : List ℕ} {broken : List Event → Type 0} {before now : ℕ}
+    → BreaksDrive told drive left broken before now → IsBoundedByDrive 0 told drive left before now
+broken_whole h = record { taken = h.taken; few = h.few; split = h.split; bound = omega (arith, h.bounded) }

@@ -179,45 +179,25 @@ some_ahead [] none = absurd (none refl)
 some_ahead (x ∷ xs) none = omega arith
 
 -- the same of a drive that is the same
-pub takes_as : (told : Type 0) (drive other left : List ℕ) (stop : Stop) (carried : List Event → Type 0) (x z : ℕ)
-    → (told → other ≡ drive) → TakesDrive (Unit {0}) other left stop carried x z
+pub takes_as : (told given : Type 0) (drive other left : List ℕ) (stop : Stop) (carried : List Event → Type 0) (x z : ℕ)
+    → (told → given) → (told → other ≡ drive) → TakesDrive given other left stop carried x z
     → TakesDrive told drive left stop carried x z
-takes_as told drive other left stop carried x z same h = record {
+takes_as told given drive other left stop carried x z tells same h = record {
   taken = h.taken;
   few = h.few;
-  split = λ t. subst (λ (d : List ℕ). IsSplit d h.taken left) (same t) (h.split tt);
-  ends = λ t. subst (λ (d : List ℕ). EndsBy d h.taken left stop) (same t) (h.ends tt);
+  split = λ t. subst (λ (d : List ℕ). IsSplit d h.taken left) (same t) (h.split (tells t));
+  ends = λ t. subst (λ (d : List ℕ). EndsBy d h.taken left stop) (same t) (h.ends (tells t));
   carried = h.carried;
   bounded = h.bounded;
 }
 
-pub takes_told : (told : Type 0) (drive other left : List ℕ) (stop : Stop) (carried : List Event → Type 0) (x z : ℕ)
-    → (told → other ≡ drive) → TakesDrive told other left stop carried x z → TakesDrive told drive left stop carried x z
-takes_told told drive other left stop carried x z same h = record {
+pub breaks_as : (told given : Type 0) (drive other left : List ℕ) (broken : List Event → Type 0) (x z : ℕ)
+    → (told → given) → (told → other ≡ drive) → BreaksDrive given other left broken x z
+    → BreaksDrive told drive left broken x z
+breaks_as told given drive other left broken x z tells same h = record {
   taken = h.taken;
   few = h.few;
-  split = λ t. subst (λ (d : List ℕ). IsSplit d h.taken left) (same t) (h.split t);
-  ends = λ t. subst (λ (d : List ℕ). EndsBy d h.taken left stop) (same t) (h.ends t);
-  carried = h.carried;
-  bounded = h.bounded;
-}
-
-pub breaks_as : (told : Type 0) (drive other left : List ℕ) (broken : List Event → Type 0) (x z : ℕ)
-    → (told → other ≡ drive) → BreaksDrive (Unit {0}) other left broken x z → BreaksDrive told drive left broken x z
-breaks_as told drive other left broken x z same h = record {
-  taken = h.taken;
-  few = h.few;
-  split = λ t. subst (λ (d : List ℕ). IsSplit d h.taken left) (same t) (h.split tt);
-  broke_off = h.broke_off;
-  bounded = h.bounded;
-}
-
-pub breaks_told : (told : Type 0) (drive other left : List ℕ) (broken : List Event → Type 0) (x z : ℕ)
-    → (told → other ≡ drive) → BreaksDrive told other left broken x z → BreaksDrive told drive left broken x z
-breaks_told told drive other left broken x z same h = record {
-  taken = h.taken;
-  few = h.few;
-  split = λ t. subst (λ (d : List ℕ). IsSplit d h.taken left) (same t) (h.split t);
+  split = λ t. subst (λ (d : List ℕ). IsSplit d h.taken left) (same t) (h.split (tells t));
   broke_off = h.broke_off;
   bounded = h.bounded;
 }

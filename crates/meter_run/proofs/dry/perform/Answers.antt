@@ -1,6 +1,7 @@
-use Rattle.std.proofs.Common.{◌∙◌, ap, subst, sym}
+use Rattle.std.proofs.Common.{[], ℕ, ◌++◌, ◌+◌, ◌∙◌, ◌≡◌, ◌≤◌, Ok, OnOk, Result, ap, refl, subst, sym}
 use Rattle.{outside.proofs.Laws.{keeps_none}, meter_run.proofs.CarriedActs.{begins_as, silent, silent_begins, whole_as}}
-use Rattle.meter_run.{specs.Commits.{IsFor, after_act}, proofs.EventLists.{no_more, one_more, went_well}}
+use Rattle.meter_run.specs.{Commits.{IsFor, after_act}, Common.{Act, Begins, Durable, Ghosts, HasCause, KeepsStore}}
+use Rattle.meter_run.{specs.PrintedText.{PrintsText}, proofs.EventLists.{no_more, one_more, went_well}}
 use Rattle.meter_run.specs.Texts.{shown_text}
 use Rattle.meter_run.proofs.dry.perform.Goals as goal
 
@@ -13,112 +14,61 @@ after-requires g c = subst (IsFor c.args.durable.now) c.in-Enter.is c.requires
 pub after-requires-in-Hold : goal.after-requires-in-Hold
 after-requires-in-Hold g c = subst (IsFor c.args.durable.now) c.in-Hold.is c.requires
 
-pub returns-in-Show-clause-durable : goal.returns-in-Show-clause-durable
-returns-in-Show-clause-durable g c = sym (ap (after_act c.args.durable.now) c.in-Show.is)
+-- what is said of an act that was carried out
+module _ {D L : Type 0} {N : ℕ} (B : Ghosts D N L) (old new : Durable) (act is : Act) (same : act ≡ is) (a : D)
+    (before : ℕ) (state : new ≡ after_act old is) where
+  abbrev Performs : {T E : Type 0} → D → ℕ → Result T E → Type 0
+  Performs b now r = record {
+    durable : new ≡ after_act old act;
+    whole : B.tells_text → OnOk r (B.printed b ≡ B.printed a ++ shown_text act);
+    begun : B.tells_text → Begins (B.printed a) (B.printed b) (shown_text act);
+    cause : HasCause (B.faults a) (B.faults b) r;
+    steps : now ≤ before + 1;
+    store : KeepsStore B a b;
+  }
 
-pub returns-in-Show-clause-whole : goal.returns-in-Show-clause-whole
-returns-in-Show-clause-whole g c = λ told. whole_as c.print_display.result (g.B.Printer.printed c.args.board.now)
-    (g.B.Printer.printed c.print_display.new.board) c.args.act.now _ c.in-Show.is
-    (c.print_display.ensures.printed.whole told)
+  performs : {T E : Type 0} (b : D) (now : ℕ) (r : Result T E) → PrintsText B a (shown_text is) b r → now ≤ before + 1
+      → Performs b now r
+  performs b now r printed few = record {
+    durable = state ∙ sym (ap (after_act old) same);
+    whole = λ told. whole_as r (B.printed a) (B.printed b) act is same (printed.whole told);
+    begun = λ told. begins_as (B.printed a) (B.printed b) act is same (printed.begun told);
+    cause = printed.cause;
+    steps = few;
+    store = printed.store;
+  }
 
-pub returns-in-Show-clause-begun : goal.returns-in-Show-clause-begun
-returns-in-Show-clause-begun g c = λ told. begins_as (g.B.Printer.printed c.args.board.now)
-    (g.B.Printer.printed c.print_display.new.board) c.args.act.now _ c.in-Show.is
-    (c.print_display.ensures.printed.begun told)
+  -- without a text
+  silently : {E : Type 0} → shown_text is ≡ [] → Performs {T = Unit {0}} {E = E} a before (Ok tt)
+  silently none =
+      let silence = ap shown_text same ∙ none in
+      record {
+        durable = state ∙ sym (ap (after_act old) same);
+        whole = λ told. silent (B.printed a) act silence;
+        begun = λ told. silent_begins (B.printed a) act silence;
+        cause = went_well (B.faults a) (B.faults a) tt (no_more (B.faults a));
+        steps = one_more before;
+        store = keeps_none B a;
+      }
 
-pub returns-in-Show-clause-cause : goal.returns-in-Show-clause-cause
-returns-in-Show-clause-cause g c = c.print_display.ensures.printed.cause
+pub returns-in-Show : goal.returns-in-Show
+returns-in-Show g c = performs g.B.Printer c.args.durable.now _ c.args.act.now _ c.in-Show.is c.args.board.now
+    c.args.steps.now refl c.print_display.new.board c.print_display.new.steps c.print_display.result
+    c.print_display.ensures.printed c.print_display.ensures.steps
 
-pub returns-in-Show-clause-steps : goal.returns-in-Show-clause-steps
-returns-in-Show-clause-steps g c = c.print_display.ensures.steps
+pub returns-in-Refuse : goal.returns-in-Refuse
+returns-in-Refuse g c = performs g.B.Printer c.args.durable.now _ c.args.act.now _ c.in-Refuse.is c.args.board.now
+    c.args.steps.now refl c.print_refusal.new.board c.print_refusal.new.steps c.print_refusal.result
+    c.print_refusal.ensures.printed c.print_refusal.ensures.steps
 
-pub returns-in-Show-clause-store : goal.returns-in-Show-clause-store
-returns-in-Show-clause-store g c = c.print_display.ensures.printed.store
+pub returns-in-Enter : goal.returns-in-Enter
+returns-in-Enter g c = silently g.B.Printer c.args.durable.now _ c.args.act.now _ c.in-Enter.is c.args.board.now
+    c.args.steps.now c.after.ensures.state refl
 
-pub returns-in-Refuse-clause-durable : goal.returns-in-Refuse-clause-durable
-returns-in-Refuse-clause-durable g c = sym (ap (after_act c.args.durable.now) c.in-Refuse.is)
+pub returns-in-Hold : goal.returns-in-Hold
+returns-in-Hold g c = silently g.B.Printer c.args.durable.now _ c.args.act.now _ c.in-Hold.is c.args.board.now
+    c.args.steps.now c.after-in-Hold.ensures.state refl
 
-pub returns-in-Refuse-clause-whole : goal.returns-in-Refuse-clause-whole
-returns-in-Refuse-clause-whole g c = λ told. whole_as c.print_refusal.result (g.B.Printer.printed c.args.board.now)
-    (g.B.Printer.printed c.print_refusal.new.board) c.args.act.now _ c.in-Refuse.is
-    (c.print_refusal.ensures.printed.whole told)
-
-pub returns-in-Refuse-clause-begun : goal.returns-in-Refuse-clause-begun
-returns-in-Refuse-clause-begun g c = λ told. begins_as (g.B.Printer.printed c.args.board.now)
-    (g.B.Printer.printed c.print_refusal.new.board) c.args.act.now _ c.in-Refuse.is
-    (c.print_refusal.ensures.printed.begun told)
-
-pub returns-in-Refuse-clause-cause : goal.returns-in-Refuse-clause-cause
-returns-in-Refuse-clause-cause g c = c.print_refusal.ensures.printed.cause
-
-pub returns-in-Refuse-clause-steps : goal.returns-in-Refuse-clause-steps
-returns-in-Refuse-clause-steps g c = c.print_refusal.ensures.steps
-
-pub returns-in-Refuse-clause-store : goal.returns-in-Refuse-clause-store
-returns-in-Refuse-clause-store g c = c.print_refusal.ensures.printed.store
-
-pub returns-in-Enter-clause-durable : goal.returns-in-Enter-clause-durable
-returns-in-Enter-clause-durable g c = c.after.ensures.state ∙ sym (ap (after_act c.args.durable.now) c.in-Enter.is)
-
-pub returns-in-Enter-clause-whole : goal.returns-in-Enter-clause-whole
-returns-in-Enter-clause-whole g c =
-    λ told. silent (g.B.Printer.printed c.args.board.now) c.args.act.now (ap shown_text c.in-Enter.is)
-
-pub returns-in-Enter-clause-begun : goal.returns-in-Enter-clause-begun
-returns-in-Enter-clause-begun g c =
-    λ told. silent_begins (g.B.Printer.printed c.args.board.now) c.args.act.now (ap shown_text c.in-Enter.is)
-
-pub returns-in-Enter-clause-cause : goal.returns-in-Enter-clause-cause
-returns-in-Enter-clause-cause g c = went_well (g.B.Printer.faults c.args.board.now)
-    (g.B.Printer.faults c.args.board.now) tt
-    (no_more (g.B.Printer.faults c.args.board.now))
-
-pub returns-in-Enter-clause-steps : goal.returns-in-Enter-clause-steps
-returns-in-Enter-clause-steps g c = one_more c.args.steps.now
-
-pub returns-in-Enter-clause-store : goal.returns-in-Enter-clause-store
-returns-in-Enter-clause-store g c = keeps_none g.B.Printer c.args.board.now
-
-pub returns-in-Hold-clause-durable : goal.returns-in-Hold-clause-durable
-returns-in-Hold-clause-durable g c =
-    c.after-in-Hold.ensures.state ∙ sym (ap (after_act c.args.durable.now) c.in-Hold.is)
-
-pub returns-in-Hold-clause-whole : goal.returns-in-Hold-clause-whole
-returns-in-Hold-clause-whole g c =
-    λ told. silent (g.B.Printer.printed c.args.board.now) c.args.act.now (ap shown_text c.in-Hold.is)
-
-pub returns-in-Hold-clause-begun : goal.returns-in-Hold-clause-begun
-returns-in-Hold-clause-begun g c =
-    λ told. silent_begins (g.B.Printer.printed c.args.board.now) c.args.act.now (ap shown_text c.in-Hold.is)
-
-pub returns-in-Hold-clause-cause : goal.returns-in-Hold-clause-cause
-returns-in-Hold-clause-cause g c = went_well (g.B.Printer.faults c.args.board.now)
-    (g.B.Printer.faults c.args.board.now) tt
-    (no_more (g.B.Printer.faults c.args.board.now))
-
-pub returns-in-Hold-clause-steps : goal.returns-in-Hold-clause-steps
-returns-in-Hold-clause-steps g c = one_more c.args.steps.now
-
-pub returns-in-Hold-clause-store : goal.returns-in-Hold-clause-store
-returns-in-Hold-clause-store g c = keeps_none g.B.Printer c.args.board.now
-
-pub returns-in-Receipt-clause-durable : goal.returns-in-Receipt-clause-durable
-returns-in-Receipt-clause-durable g c = sym (ap (after_act c.args.durable.now) c.in-Receipt.is)
-
-pub returns-in-Receipt-clause-whole : goal.returns-in-Receipt-clause-whole
-returns-in-Receipt-clause-whole g c =
-    λ told. silent (g.B.Printer.printed c.args.board.now) c.args.act.now (ap shown_text c.in-Receipt.is)
-
-pub returns-in-Receipt-clause-begun : goal.returns-in-Receipt-clause-begun
-returns-in-Receipt-clause-begun g c =
-    λ told. silent_begins (g.B.Printer.printed c.args.board.now) c.args.act.now (ap shown_text c.in-Receipt.is)
-
-pub returns-in-Receipt-clause-cause : goal.returns-in-Receipt-clause-cause
-returns-in-Receipt-clause-cause g c = went_well (g.B.Printer.faults c.args.board.now)
-    (g.B.Printer.faults c.args.board.now) tt (no_more (g.B.Printer.faults c.args.board.now))
-
-pub returns-in-Receipt-clause-steps : goal.returns-in-Receipt-clause-steps
-returns-in-Receipt-clause-steps g c = one_more c.args.steps.now
-
-pub returns-in-Receipt-clause-store : goal.returns-in-Receipt-clause-store
-returns-in-Receipt-clause-store g c = keeps_none g.B.Printer c.args.board.now
+pub returns-in-Receipt : goal.returns-in-Receipt
+returns-in-Receipt g c = silently g.B.Printer c.args.durable.now _ c.args.act.now _ c.in-Receipt.is c.args.board.now
+    c.args.steps.now refl refl

@@ -1,4 +1,4 @@
-use Rattle.std.proofs.{Common.{◌++◌, ◌∙◌, List, ap, arith, refl, sym}, lemmas.List.{append-nil, take_all}}
+use Rattle.std.proofs.{Common.{◌++◌, ◌∙◌, List, ap, arith, refl, rules, sym}, lemmas.List.{append-nil, take_all}}
 use Rattle.{outside.proofs.Laws.{keeps_none, keeps_then}, meter_run.specs.{Common.{Act}, Texts.{shown_texts}}}
 use Rattle.meter_run.{specs.Commits.{after_acts}, proofs.EventLists.{not_ok, true_is, went_well, went_wrong}}
 use Rattle.meter_run.proofs.CarriedActs.{after_more, are_after, are_at, begins_at, begins_end, printed_more}
@@ -36,50 +36,33 @@ loop-act-init g c = record {
   steps = omega arith;
 }
 
-pub returns-in_err-perform-clause-durable : goal.returns-in_err-perform-clause-durable
-returns-in_err-perform-clause-durable g c = not_ok _ c.from_residual.result _ c.from_residual.ensures.1
+pub returns-in_err-perform : goal.returns-in_err-perform
+returns-in_err-perform g c = record {
+  durable = not_ok _ c.from_residual.result _ c.from_residual.ensures.1;
+  whole = λ told. not_ok _ c.from_residual.result _ c.from_residual.ensures.1;
+  begun = λ told.
+      begins_at (g.B.Printer.printed c.args.board.now) (g.B.Printer.printed c.loop-act.board)
+      (g.B.Printer.printed c.perform.new.board) c.args.acts.now c.loop-act.act-index _ c.loop-act-test.true
+      (c.loop-act.invariant.printed told) (c.perform.ensures.begun told);
+  cause = went_wrong _ _ _ _ c.from_residual.result c.from_residual.ensures.0
+      c.loop-act.invariant.faults c.in_err-perform.ensures.cause;
+  steps = omega (arith, c.loop-act-test.true, c.loop-act.invariant.steps, c.perform.ensures.steps);
+  store = keeps_then g.B.Printer c.args.board.now c.loop-act.board c.perform.new.board
+      c.loop-act.invariant.store c.perform.ensures.store;
+}
 
-pub returns-in_err-perform-clause-whole : goal.returns-in_err-perform-clause-whole
-returns-in_err-perform-clause-whole g c = λ told. not_ok _ c.from_residual.result _ c.from_residual.ensures.1
-
-pub returns-in_err-perform-clause-cause : goal.returns-in_err-perform-clause-cause
-returns-in_err-perform-clause-cause g c =
-    went_wrong (g.B.Printer.faults c.args.board.now) (g.B.Printer.faults c.loop-act.board)
-    (g.B.Printer.faults c.perform.new.board) _ c.from_residual.result c.from_residual.ensures.0
-    c.loop-act.invariant.faults c.in_err-perform.ensures.cause
-
-pub returns-in_err-perform-clause-steps : goal.returns-in_err-perform-clause-steps
-returns-in_err-perform-clause-steps g c =
-    omega (arith, c.loop-act-test.true, c.loop-act.invariant.steps, c.perform.ensures.steps)
-
-pub returns-in_err-perform-clause-store : goal.returns-in_err-perform-clause-store
-returns-in_err-perform-clause-store g c = keeps_then g.B.Printer c.args.board.now c.loop-act.board c.perform.new.board
-    c.loop-act.invariant.store c.perform.ensures.store
-
-pub returns-in_err-perform-clause-begun : goal.returns-in_err-perform-clause-begun
-returns-in_err-perform-clause-begun g c = λ told.
-    begins_at (g.B.Printer.printed c.args.board.now) (g.B.Printer.printed c.loop-act.board)
-    (g.B.Printer.printed c.perform.new.board) c.args.acts.now c.loop-act.act-index _ c.loop-act-test.true
-    (c.loop-act.invariant.printed told) (c.perform.ensures.begun told)
-
-pub returns-clause-durable : goal.returns-clause-durable
-returns-clause-durable g c = c.loop-act.invariant.durable
-    ∙ ap (after_acts c.args.durable.now) (take_all c.loop-act.act-index c.args.acts.now c.loop-act-test.false)
-
-pub returns-clause-whole : goal.returns-clause-whole
-returns-clause-whole g c = λ told.
-    c.loop-act.invariant.printed told ∙ ap (λ (acts : List Act). g.B.Printer.printed c.args.board.now ++ shown_texts
-    acts)
-    (take_all c.loop-act.act-index c.args.acts.now c.loop-act-test.false)
-
-pub returns-clause-cause : goal.returns-clause-cause
-returns-clause-cause g c =
-    went_well (g.B.Printer.faults c.args.board.now) (g.B.Printer.faults c.loop-act.board) tt c.loop-act.invariant.faults
-
-pub returns-clause-store : goal.returns-clause-store
-returns-clause-store g c = c.loop-act.invariant.store
-
-pub returns-clause-begun : goal.returns-clause-begun
-returns-clause-begun g c = λ told. begins_end (g.B.Printer.printed c.args.board.now)
-    (g.B.Printer.printed c.loop-act.board)
-    c.args.acts.now c.loop-act.act-index c.loop-act-test.false (c.loop-act.invariant.printed told)
+pub returns : goal.returns
+returns g c = record {
+  durable = c.loop-act.invariant.durable
+      ∙ ap (after_acts c.args.durable.now) (take_all c.loop-act.act-index c.args.acts.now c.loop-act-test.false);
+  whole = λ told.
+      c.loop-act.invariant.printed told ∙ ap (λ (acts : List Act). g.B.Printer.printed c.args.board.now ++ shown_texts
+      acts)
+      (take_all c.loop-act.act-index c.args.acts.now c.loop-act-test.false);
+  begun = λ told. begins_end (g.B.Printer.printed c.args.board.now)
+      (g.B.Printer.printed c.loop-act.board)
+      c.args.acts.now c.loop-act.act-index c.loop-act-test.false (c.loop-act.invariant.printed told);
+  cause = went_well _ _ tt c.loop-act.invariant.faults;
+  steps = search rules;
+  store = c.loop-act.invariant.store;
+}

@@ -1,4 +1,4 @@
-use Rattle.std.proofs.Common.{◌∙◌, subst, sym}
+use Rattle.std.proofs.Common.{◌∙◌, rules, subst, sym}
 use Rattle.meter_run.{specs.Common.{Event, IsTimely, Meets, step}, proofs.EventOnStore.{lawful_beside}}
 use Rattle.meter_run.proofs.SupplyDrop.{came}
 use Rattle.meter_run.proofs.dry.step_or_resume.Goals as goal
@@ -11,19 +11,18 @@ resume-powered-requires g c = record {
   second = subst IsTimely c.in-Some.ensures.comes.0 c.requires.timely;
 }
 
-pub returns-in-Some-clause-lawful : goal.returns-in-Some-clause-lawful
-returns-in-Some-clause-lawful g c = c.resume-powered.ensures.lawful
-
-pub returns-in-Some-clause-ranges : goal.returns-in-Some-clause-ranges
-returns-in-Some-clause-ranges g c = c.resume-powered.ensures.ranges
-
-pub returns-in-Some-clause-meets : goal.returns-in-Some-clause-meets
-returns-in-Some-clause-meets g c = λ s m is stands.
-    let core = c.resume-powered.result.0 in
-    let acts = c.resume-powered.result.1.items in
-    subst (λ (event : Event). Meets s core.state acts (step s event m)) (sym c.in-Some.ensures.comes.0)
-    (came s c.in-Some.second c.args.core.now core c.args.durable.now acts c.in-Some.ensures.comes.1
-    (λ n at saved. c.resume-powered.ensures.meets s n is at saved) m stands)
+pub returns-in-Some : goal.returns-in-Some
+returns-in-Some g c = record {
+  lawful = c.resume-powered.ensures.lawful;
+  ranges = c.resume-powered.ensures.ranges;
+  meets = λ s m is stands.
+      let core = c.resume-powered.result.0 in
+      let acts = c.resume-powered.result.1.items in
+      subst (λ (event : Event). Meets s core.state acts (step s event m)) (sym c.in-Some.ensures.comes.0)
+      (came s c.in-Some.second c.args.core.now core c.args.durable.now acts c.in-Some.ensures.comes.1
+      (λ n at saved. c.resume-powered.ensures.meets s n is at saved) m stands);
+  steps = search rules;
+}
 
 pub step_into-requires : goal.step_into-requires
 step_into-requires g c = record {
@@ -36,14 +35,12 @@ step_into-requires g c = record {
   empty = c.requires.empty;
 }
 
-pub returns-in-None-clause-lawful : goal.returns-in-None-clause-lawful
-returns-in-None-clause-lawful g c = c.step_into.ensures.takes.lawful
-
-pub returns-in-None-clause-ranges : goal.returns-in-None-clause-ranges
-returns-in-None-clause-ranges g c =
-    lawful_beside c.args.tables.now c.args.seal.now c.args.event c.args.core.now c.step_into.new.self
-    c.args.durable.now c.step_into.new.acts.items c.requires.ready (c.supply_at.ensures.other c.in-None.is)
-    c.step_into.ensures.takes
-
-pub returns-in-None-clause-meets : goal.returns-in-None-clause-meets
-returns-in-None-clause-meets g c = λ s m is stands. c.step_into.ensures.takes.meets s m is stands.core
+pub returns-in-None : goal.returns-in-None
+returns-in-None g c = record {
+  lawful = c.step_into.ensures.takes.lawful;
+  ranges = lawful_beside c.args.tables.now c.args.seal.now c.args.event c.args.core.now c.step_into.new.self
+      c.args.durable.now c.step_into.new.acts.items c.requires.ready (c.supply_at.ensures.other c.in-None.is)
+      c.step_into.ensures.takes;
+  meets = λ s m is stands. c.step_into.ensures.takes.meets s m is stands.core;
+  steps = search rules;
+}

@@ -3,51 +3,33 @@ use Rattle.{outside.proofs.Laws.{keeps_none}, meter_run.proofs.{EventLists.{no_m
 use Rattle.meter_run.{specs.Common.{Down}, proofs.SupplyDrop.{ends_off, ends_on, ends_some, event_store, off_some}}
 use Rattle.meter_run.proofs.dry_drive.drop_at_end.Goals as goal
 
-pub returns-clause-whole : goal.returns-clause-whole
-returns-clause-whole g c =
-    on_ok_weaker c.carry_event.result (λ h. ends_on g.B.Printer c.args.tables.now c.args.seal.now c.args.meter.now
-    c.args.board.now c.carry_event.new.self c.carry_event.new.board
-    (not_told c.is_off.result _ c.is_off.ensures.1 c.if-is_off.false) h) c.carry_event.ensures.carried
+pub returns : goal.returns
+returns g c = record {
+  whole = on_ok_weaker c.carry_event.result (λ h. ends_on g.B.Printer c.args.tables.now c.args.seal.now c.args.meter.now
+      c.args.board.now c.carry_event.new.self c.carry_event.new.board
+      (not_told c.is_off.result _ c.is_off.ensures.1 c.if-is_off.false) h) c.carry_event.ensures.carried;
+  begun = ends_some g.B.Printer c.args.tables.now c.args.seal.now c.carry_event.result c.args.meter.now c.args.board.now
+      c.carry_event.new.self c.carry_event.new.board
+      (not_told c.is_off.result _ c.is_off.ensures.1 c.if-is_off.false) c.carry_event.ensures.carried
+      c.carry_event.ensures.broke_off;
+  cause = c.carry_event.ensures.cause;
+  steps = c.carry_event.ensures.steps;
+  idle = λ off. absurd (not_told c.is_off.result _ c.is_off.ensures.1 c.if-is_off.false off);
+  store = event_store g.B.Printer c.args.tables.now c.args.seal.now c.carry_event.result c.args.meter.now
+      c.args.board.now
+      c.carry_event.new.self c.carry_event.new.board (Down ∷ [])
+      c.carry_event.ensures.carried c.carry_event.ensures.broke_off;
+}
 
-pub returns-clause-begun : goal.returns-clause-begun
-returns-clause-begun g c =
-    ends_some g.B.Printer c.args.tables.now c.args.seal.now c.carry_event.result c.args.meter.now c.args.board.now
-    c.carry_event.new.self c.carry_event.new.board
-    (not_told c.is_off.result _ c.is_off.ensures.1 c.if-is_off.false) c.carry_event.ensures.carried
-    c.carry_event.ensures.broke_off
-
-pub returns-then-is_off-clause-whole : goal.returns-then-is_off-clause-whole
-returns-then-is_off-clause-whole g c = ends_off g.B.Printer c.args.tables.now c.args.seal.now c.args.meter.now
-    c.args.board.now (c.is_off.ensures.0 c.if-is_off.true)
-
-pub returns-then-is_off-clause-begun : goal.returns-then-is_off-clause-begun
-returns-then-is_off-clause-begun g c = off_some g.B.Printer c.args.tables.now c.args.seal.now c.args.meter.now
-    c.args.board.now (c.is_off.ensures.0 c.if-is_off.true)
-
-pub returns-then-is_off-clause-cause : goal.returns-then-is_off-clause-cause
-returns-then-is_off-clause-cause g c = went_well (g.B.Printer.faults c.args.board.now)
-    (g.B.Printer.faults c.args.board.now) tt (no_more (g.B.Printer.faults c.args.board.now))
-
-pub returns-then-is_off-clause-steps : goal.returns-then-is_off-clause-steps
-returns-then-is_off-clause-steps g c = omega arith
-
-pub returns-then-is_off-clause-store : goal.returns-then-is_off-clause-store
-returns-then-is_off-clause-store g c = keeps_none g.B.Printer c.args.board.now
-
-pub returns-clause-cause : goal.returns-clause-cause
-returns-clause-cause g c = c.carry_event.ensures.cause
-
-pub returns-clause-steps : goal.returns-clause-steps
-returns-clause-steps g c = c.carry_event.ensures.steps
-
-pub returns-clause-store : goal.returns-clause-store
-returns-clause-store g c =
-    event_store g.B.Printer c.args.tables.now c.args.seal.now c.carry_event.result c.args.meter.now c.args.board.now
-    c.carry_event.new.self c.carry_event.new.board (Down ∷ [])
-    c.carry_event.ensures.carried c.carry_event.ensures.broke_off
-
-pub returns-then-is_off-clause-idle : goal.returns-then-is_off-clause-idle
-returns-then-is_off-clause-idle g c = λ off. refl
-
-pub returns-clause-idle : goal.returns-clause-idle
-returns-clause-idle g c = λ off. absurd (not_told c.is_off.result _ c.is_off.ensures.1 c.if-is_off.false off)
+pub returns-then-is_off : goal.returns-then-is_off
+returns-then-is_off g c = record {
+  whole = ends_off g.B.Printer c.args.tables.now c.args.seal.now c.args.meter.now
+      c.args.board.now (c.is_off.ensures.0 c.if-is_off.true);
+  begun = off_some g.B.Printer c.args.tables.now c.args.seal.now c.args.meter.now
+      c.args.board.now (c.is_off.ensures.0 c.if-is_off.true);
+  cause = went_well (g.B.Printer.faults c.args.board.now)
+      (g.B.Printer.faults c.args.board.now) tt (no_more (g.B.Printer.faults c.args.board.now));
+  steps = omega arith;
+  idle = λ off. refl;
+  store = keeps_none g.B.Printer c.args.board.now;
+}

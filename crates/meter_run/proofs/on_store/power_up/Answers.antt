@@ -10,8 +10,7 @@ returns-in_err-read_store-clause-attempts g c = record {
   stopped = amid_scan g.B.Printer c.args.tables.now c.args.seal.now c.args.meter.now c.args.board.now
       c.read_store.new.board c.args.second
       (λ told. c.read_store.ensures.points told c.args.seal.now) c.read_store.ensures.text c.read_store.ensures.beside;
-  cause = went_wrong (g.B.Printer.faults c.args.board.now) (g.B.Printer.faults c.args.board.now)
-      (g.B.Printer.faults c.read_store.new.board) _ c.from_residual.result c.from_residual.ensures.0
+  cause = went_wrong _ _ _ _ c.from_residual.result c.from_residual.ensures.0
       (no_more (g.B.Printer.faults c.args.board.now)) c.in_err-read_store.ensures.cause;
 }
 

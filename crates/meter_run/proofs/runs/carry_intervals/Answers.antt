@@ -25,33 +25,42 @@ loop-done-preserved g c =
           p (i + 1) n c.args.meter.now c.args.board.now c.carry_interval.new.meter c.carry_interval.new.board
           c.carry_equal-done.new.self c.carry_interval.new.board one
           (c.carry_equal-done.ensures.carried c.carry_interval.new.board c.in_ok-carry_interval.ensures.ready);
-      faults = counts_more (g.B.Printer.faults c.args.board.now) (g.B.Printer.faults c.loop-done.board)
-          (g.B.Printer.faults c.carry_interval.new.board) c.loop-done.invariant.faults
+      faults = counts_more _ _ _ c.loop-done.invariant.faults
           (c.in_ok-carry_interval.ensures.cause.kept true_is);
       steps = bounded_further p (i + 1) n c.args.steps.now c.carry_interval.new.steps
           (bounded_at_interval p i (i + 1) c.args.steps.now c.loop-done.steps c.carry_interval.new.steps
           (omega arith) c.loop-done.invariant.steps c.carry_interval.ensures.steps);
     }
 
-pub returns-in_err-carry_interval-clause-broke_off : goal.returns-in_err-carry_interval-clause-broke_off
-returns-in_err-carry_interval-clause-broke_off g c =
-    let r = c.args.by.now in
-    on_err c.from_residual.result _ (intervals_broken (g.C.Carrier.carried r) (g.C.Carrier.broke_off r)
-    (g.met.C.Carrier.behind r) (g.met.C.Carrier.later r) (g.met.C.Carrier.sooner r)
-    c.args.pulses c.loop-done.done c.args.count c.args.meter.now c.args.board.now c.loop-done.meter c.loop-done.board
-    c.carry_interval.new.board c.loop-done-test.true c.loop-done.invariant.carried
-    c.in_err-carry_interval.ensures.broke_off)
+pub returns-in_err-carry_interval : goal.returns-in_err-carry_interval
+returns-in_err-carry_interval g c = record {
+  ready = not_ok _ c.from_residual.result _ c.from_residual.ensures.1;
+  carried = not_ok _ c.from_residual.result _ c.from_residual.ensures.1;
+  broke_off =
+      let r = c.args.by.now in
+      on_err c.from_residual.result _ (intervals_broken (g.C.Carrier.carried r) (g.C.Carrier.broke_off r)
+      (g.met.C.Carrier.behind r) (g.met.C.Carrier.later r) (g.met.C.Carrier.sooner r)
+      c.args.pulses c.loop-done.done c.args.count c.args.meter.now c.args.board.now c.loop-done.meter c.loop-done.board
+      c.carry_interval.new.board c.loop-done-test.true c.loop-done.invariant.carried
+      c.in_err-carry_interval.ensures.broke_off);
+  cause = went_wrong _ _ _ _ c.from_residual.result c.from_residual.ensures.0
+      c.loop-done.invariant.faults c.in_err-carry_interval.ensures.cause;
+  steps = bounded_at_interval c.args.pulses c.loop-done.done c.args.count c.args.steps.now c.loop-done.steps
+      c.carry_interval.new.steps c.loop-done-test.true c.loop-done.invariant.steps c.carry_interval.ensures.steps;
+}
 
-pub returns-in_err-carry_interval-clause-steps : goal.returns-in_err-carry_interval-clause-steps
-returns-in_err-carry_interval-clause-steps g c =
-    bounded_at_interval c.args.pulses c.loop-done.done c.args.count c.args.steps.now c.loop-done.steps
-    c.carry_interval.new.steps c.loop-done-test.true c.loop-done.invariant.steps c.carry_interval.ensures.steps
-
-pub returns-clause-carried : goal.returns-clause-carried
-returns-clause-carried g c =
+pub returns : goal.returns
+returns g c =
     let all : c.loop-done.done ≡ c.args.count = omega (arith, c.loop-done-test.false, c.loop-done.invariant.few) in
-    subst (λ (n : ℕ). g.C.Carrier.carried c.args.by.now c.args.meter.now c.args.board.now
-    (intervals_events c.args.pulses n) c.loop-done.meter c.loop-done.board) all c.loop-done.invariant.carried
+    record {
+      ready = c.loop-done.invariant.ready;
+      carried = subst (λ (n : ℕ). g.C.Carrier.carried c.args.by.now c.args.meter.now c.args.board.now
+          (intervals_events c.args.pulses n) c.loop-done.meter c.loop-done.board) all c.loop-done.invariant.carried;
+      broke_off = tt;
+      cause = went_well _ _ tt c.loop-done.invariant.faults;
+      steps = subst (λ (n : ℕ). IsBounded c.args.steps.now c.loop-done.steps (intervals_events c.args.pulses n)) all
+          c.loop-done.invariant.steps;
+    }
 
 pub loop-done-init : goal.loop-done-init
 loop-done-init g c = record {
@@ -64,32 +73,3 @@ loop-done-init g c = record {
 
 pub carry_interval-requires : goal.carry_interval-requires
 carry_interval-requires g c = record { ready = c.loop-done.invariant.ready }
-
-pub returns-in_err-carry_interval-clause-ready : goal.returns-in_err-carry_interval-clause-ready
-returns-in_err-carry_interval-clause-ready g c = not_ok _ c.from_residual.result _ c.from_residual.ensures.1
-
-pub returns-in_err-carry_interval-clause-carried : goal.returns-in_err-carry_interval-clause-carried
-returns-in_err-carry_interval-clause-carried g c = not_ok _ c.from_residual.result _ c.from_residual.ensures.1
-
-pub returns-in_err-carry_interval-clause-cause : goal.returns-in_err-carry_interval-clause-cause
-returns-in_err-carry_interval-clause-cause g c =
-    went_wrong (g.B.Printer.faults c.args.board.now) (g.B.Printer.faults c.loop-done.board)
-    (g.B.Printer.faults c.carry_interval.new.board) _ c.from_residual.result c.from_residual.ensures.0
-    c.loop-done.invariant.faults c.in_err-carry_interval.ensures.cause
-
-pub returns-clause-ready : goal.returns-clause-ready
-returns-clause-ready g c = c.loop-done.invariant.ready
-
-pub returns-clause-broke_off : goal.returns-clause-broke_off
-returns-clause-broke_off g c = tt
-
-pub returns-clause-cause : goal.returns-clause-cause
-returns-clause-cause g c =
-    went_well (g.B.Printer.faults c.args.board.now) (g.B.Printer.faults c.loop-done.board) tt
-    c.loop-done.invariant.faults
-
-pub returns-clause-steps : goal.returns-clause-steps
-returns-clause-steps g c =
-    let all : c.loop-done.done ≡ c.args.count = omega (arith, c.loop-done-test.false, c.loop-done.invariant.few) in
-    subst (λ (n : ℕ). IsBounded c.args.steps.now c.loop-done.steps (intervals_events c.args.pulses n)) all
-    c.loop-done.invariant.steps

@@ -1,94 +1,123 @@
-use Rattle.std.proofs.{Common.{[], ◌∷◌, All, ap, refl, subst, sym}, lemmas.List.Elements.{All-head}}
-use Rattle.{receipt_text.specs.Receipts.{receipt_text}, meter_run.proofs.{ActsOnStore.{turn_one}, EventLists.{on_ok}}}
-use Rattle.meter_run.specs.{Commits.{IsFor, after_act}, Deeds.{Does, act_text}}
-use Rattle.meter_run.specs.Common.{Act, Enter, Hold, IsLawfulAct, display_text, part_of_seal, refusal_text}
-use Rattle.meter_run.proofs.ActsOnStore.{commit_steps, leaves_as, print_steps, prints_as, prints_none, turn_none}
-use Rattle.meter_run.proofs.{BoardDeeds.{agrees_kept, beside_kept, print_point}, CommittedStates.{fits_after}}
+use Rattle.std.{specs.Option.{ForSome}, proofs.lemmas.{List.Elements.{All-head}, Result.{on_ok_weaker}}}
+use Rattle.std.proofs.Common.{[], ℕ, ◌*◌, ◌++◌, ◌+◌, ◌∙◌, ◌∷◌, ◌≡◌, ◌≤◌, All, OnOk, Result, ap, refl, subst, sym}
+use Rattle.meter_run.specs.{Commits.{IsFor, after_act, commits_in}, OnStore.{Agrees, MayDo, WritesTotals}}
+use Rattle.meter_run.specs.Common.{Act, Change, Durable, Fits, Ghosts, HasCause, IsLawfulAct, Known, LeavesNow, Seal}
+use Rattle.meter_run.specs.{Common.{TableParts, after}, Deeds.{Deed, Does, act_text, after_deed, changes_of}}
+use Rattle.meter_run.{specs.InTurn.{Commits, CommitsInTurn}, proofs.BoardDeeds.{agrees_kept, beside_kept, print_point}}
+use Rattle.meter_run.specs.Points.{GoesBy}
+use Rattle.meter_run.{specs.PrintedText.{PrintsText}, proofs.{CommittedStates.{fits_after}, EventLists.{on_ok}}}
+use Rattle.meter_run.proofs.ActsOnStore.{commit_steps, print_steps, prints_as, prints_none, turn_none, turn_one}
 use Rattle.meter_run.proofs.storing.do_act.Goals as goal
 
-pub returns-in-Show-clause-agrees : goal.returns-in-Show-clause-agrees
-returns-in-Show-clause-agrees g c = λ tables may. on_ok c.print_display.result _ (agrees_kept g.B.Printer tables
-    c.args.known.now c.args.board.now c.print_display.new.board c.print_display.ensures.printed.store may.agrees)
+-- what is said of an act that was carried out
+module _ {D L : Type 0} {N : ℕ} (B : Ghosts D N L) (seal : Seal) (known : Known) (act is : Act) (same : act ≡ is)
+    (a b : D) {T E : Type 0} (r : Result T E) (before now : ℕ) where
+  abbrev IsDone : Known → Type 0
+  IsDone left = record {
+    durable : OnOk r (left.durable ≡ after_act known.durable act);
+    agrees : (tables : TableParts) → MayDo B tables known a (act ∷ []) → OnOk r (Agrees B tables left b);
+    whole : B.tells_text → OnOk r (B.printed b ≡ B.printed a ++ act_text seal act);
+    points : B.tells_image → (tables : TableParts) → MayDo B tables known a (act ∷ [])
+        → GoesBy B tables seal a b known.durable (Does act ∷ []);
+    turn : B.tells_image → OnOk r (CommitsInTurn B known.durable (changes_of (Does act ∷ [])) a b);
+    beside : B.tells_image → WritesTotals B a b;
+    cause : HasCause (B.faults a) (B.faults b) r;
+    steps : now ≤ before + 1 + 5 * commits_in (act ∷ []);
+  }
 
-pub returns-in-Show-clause-points : goal.returns-in-Show-clause-points
-returns-in-Show-clause-points g c = λ told tables may.
-    let known = c.args.known.now in
-    print_point g.B.Printer tables c.args.seal.now c.args.board.now c.print_display.new.board known.durable known.place
-    (Does c.args.act.now) (display_text c.in-Show.display) (ap (act_text c.args.seal.now) c.in-Show.is)
-    (may.agrees.settled told) may.agrees.fits c.print_display.ensures.printed.store
-    c.print_display.ensures.printed.leaves c.print_display.ensures.printed.begun
+  -- by a print
+  prints : LeavesNow B a → after_act known.durable is ≡ known.durable → changes_of (Does is ∷ []) ≡ []
+      → PrintsText B a (act_text seal is) b r → now ≤ before + 1 → IsDone known
+  prints rest stays none printed few = record {
+    durable = on_ok r _ (sym (ap (after_act known.durable) same ∙ stays));
+    agrees = λ tables may. on_ok r _ (agrees_kept B tables known a b printed.store may.agrees);
+    whole = λ told. prints_as seal r (B.printed a) (B.printed b) act is same (printed.whole told);
+    points = λ told tables may. print_point B tables seal a b known.durable known.place (Does act) (act_text seal is)
+        (ap (act_text seal) same) (may.agrees.settled told) may.agrees.fits printed.store printed.leaves printed.begun;
+    turn = λ told. turn_none B r known.durable act is same a b none printed.store;
+    beside = λ told. beside_kept B a b rest printed.store;
+    cause = printed.cause;
+    steps = print_steps act before now few;
+  }
 
-pub returns-in-Show-clause-beside : goal.returns-in-Show-clause-beside
-returns-in-Show-clause-beside g c = λ told. beside_kept g.B.Printer c.args.board.now c.print_display.new.board
-    (g.met.B.Printer.only_now c.args.board.now) c.print_display.ensures.printed.store
+  -- by a commit, which is said of as the store says it
+  commits : (left : Known) (change : Change) → after_act known.durable is ≡ after known.durable change
+      → changes_of (Does is ∷ []) ≡ change ∷ [] → act_text seal is ≡ [] → commits_in (is ∷ []) ≡ 1
+      → OnOk r (left.durable ≡ after known.durable change)
+      → ((tables : TableParts) → ForSome (after known.durable change).hold (Fits tables)
+      → OnOk r (Agrees B tables left b))
+      → (B.tells_image → (tables : TableParts) (seal : Seal) (deed : Deed) → ForSome known.durable.hold (Fits tables)
+      → ForSome (after known.durable change).hold (Fits tables)
+      → after_deed known.durable deed ≡ after known.durable change
+      → GoesBy B tables seal a b known.durable (deed ∷ []))
+      → B.printed b ≡ B.printed a → (B.tells_image → OnOk r (Commits B known.durable change a b))
+      → (B.tells_image → WritesTotals B a b) → HasCause (B.faults a) (B.faults b) r → now ≤ before + 6 → IsDone left
+  commits left change state one silent single durable agrees points text turn beside cause few =
+      let fitting : (tables : TableParts) → MayDo B tables known a (act ∷ []) → ForSome
+      (after known.durable change).hold (Fits tables) = λ tables may.
+      subst (λ (d : Durable). ForSome d.hold (Fits tables)) state (fits_after tables may.number known.durable (is ∷ [])
+      may.agrees.fits (subst (λ (x : Act). All (IsLawfulAct tables may.number) (x ∷ [])) same may.lawful)) in
+      record {
+        durable = on_ok_weaker r (λ is. is ∙ sym (ap (after_act known.durable) same ∙ state)) durable;
+        agrees = λ tables may. agrees tables (fitting tables may);
+        whole = λ told. on_ok r _
+            (prints_none (B.printed a) (B.printed b) (act_text seal act) (ap (act_text seal) same ∙ silent) text);
+        points = λ told tables may. points told tables seal (Does act) may.agrees.fits (fitting tables may)
+            (ap (after_act known.durable) same ∙ state);
+        turn = λ told. turn_one B r known.durable act is same a b change one (turn told);
+        beside = beside;
+        cause = cause;
+        steps = commit_steps act is before now same single few;
+      }
 
-pub returns-in-Refuse-clause-agrees : goal.returns-in-Refuse-clause-agrees
-returns-in-Refuse-clause-agrees g c = λ tables may. on_ok c.print_refusal.result _ (agrees_kept g.B.Printer tables
-    c.args.known.now c.args.board.now c.print_refusal.new.board c.print_refusal.ensures.printed.store may.agrees)
+pub returns-in-Show : goal.returns-in-Show
+returns-in-Show g c = prints g.B.Printer c.args.seal.now c.args.known.now c.args.act.now _ c.in-Show.is c.args.board.now
+    c.print_display.new.board c.print_display.result c.args.steps.now c.print_display.new.steps
+    (g.met.B.Printer.only_now c.args.board.now) refl refl c.print_display.ensures.printed c.print_display.ensures.steps
 
-pub returns-in-Refuse-clause-points : goal.returns-in-Refuse-clause-points
-returns-in-Refuse-clause-points g c = λ told tables may.
-    let known = c.args.known.now in
-    print_point g.B.Printer tables c.args.seal.now c.args.board.now c.print_refusal.new.board known.durable known.place
-    (Does c.args.act.now) (refusal_text c.in-Refuse.why) (ap (act_text c.args.seal.now) c.in-Refuse.is)
-    (may.agrees.settled told) may.agrees.fits c.print_refusal.ensures.printed.store
-    c.print_refusal.ensures.printed.leaves c.print_refusal.ensures.printed.begun
+pub returns-in-Refuse : goal.returns-in-Refuse
+returns-in-Refuse g c = prints g.B.Printer c.args.seal.now c.args.known.now c.args.act.now _ c.in-Refuse.is
+    c.args.board.now
+    c.print_refusal.new.board c.print_refusal.result c.args.steps.now c.print_refusal.new.steps
+    (g.met.B.Printer.only_now c.args.board.now) refl refl c.print_refusal.ensures.printed c.print_refusal.ensures.steps
 
-pub returns-in-Refuse-clause-beside : goal.returns-in-Refuse-clause-beside
-returns-in-Refuse-clause-beside g c = λ told. beside_kept g.B.Printer c.args.board.now c.print_refusal.new.board
-    (g.met.B.Printer.only_now c.args.board.now) c.print_refusal.ensures.printed.store
+pub returns-in-Receipt : goal.returns-in-Receipt
+returns-in-Receipt g c = prints g.B.Printer c.args.seal.now c.args.known.now c.args.act.now _ c.in-Receipt.is
+    c.args.board.now
+    c.print_receipt.new.board c.print_receipt.result c.args.steps.now c.print_receipt.new.steps
+    (g.met.B.Printer.only_now c.args.board.now) refl refl c.print_receipt.ensures.printed c.print_receipt.ensures.steps
 
-pub returns-in-Receipt-clause-agrees : goal.returns-in-Receipt-clause-agrees
-returns-in-Receipt-clause-agrees g c = λ tables may. on_ok c.print_receipt.result _ (agrees_kept g.B.Printer tables
-    c.args.known.now c.args.board.now c.print_receipt.new.board c.print_receipt.ensures.printed.store may.agrees)
+pub returns-in-Enter : goal.returns-in-Enter
+returns-in-Enter g c =
+    let e = c.store.ensures in
+    commits g.B.Printer c.args.seal.now c.args.known.now c.args.act.now _ c.in-Enter.is c.args.board.now
+    c.store.new.board c.store.result c.args.steps.now c.store.new.steps c.store.new.known _ refl refl refl refl
+    e.durable e.agrees e.points e.text e.turn e.beside e.cause e.steps
 
-pub returns-in-Receipt-clause-points : goal.returns-in-Receipt-clause-points
-returns-in-Receipt-clause-points g c = λ told tables may.
-    let known = c.args.known.now in
-    print_point g.B.Printer tables c.args.seal.now c.args.board.now c.print_receipt.new.board known.durable known.place
-    (Does c.args.act.now) (receipt_text c.in-Receipt.receipt (part_of_seal c.args.seal.now))
-    (ap (act_text c.args.seal.now) c.in-Receipt.is)
-    (may.agrees.settled told) may.agrees.fits c.print_receipt.ensures.printed.store
-    c.print_receipt.ensures.printed.leaves c.print_receipt.ensures.printed.begun
-
-pub returns-in-Receipt-clause-beside : goal.returns-in-Receipt-clause-beside
-returns-in-Receipt-clause-beside g c = λ told. beside_kept g.B.Printer c.args.board.now c.print_receipt.new.board
-    (g.met.B.Printer.only_now c.args.board.now) c.print_receipt.ensures.printed.store
-
-pub returns-in-Enter-clause-points : goal.returns-in-Enter-clause-points
-returns-in-Enter-clause-points g c =
-    λ told tables may. c.store.ensures.points told tables c.args.seal.now (Does c.args.act.now) may.agrees.fits
-    (fits_after tables may.number c.args.known.now.durable (Enter c.in-Enter.entry ∷ []) may.agrees.fits
-    (subst (λ (act : Act). All (IsLawfulAct tables may.number) (act ∷ [])) c.in-Enter.is may.lawful))
-    (ap (after_act c.args.known.now.durable) c.in-Enter.is)
-
-pub returns-in-Hold-clause-points : goal.returns-in-Hold-clause-points
-returns-in-Hold-clause-points g c =
-    λ told tables may. c.store-in-Hold.ensures.points told tables c.args.seal.now (Does c.args.act.now) may.agrees.fits
-    (fits_after tables may.number c.args.known.now.durable (Hold c.in-Hold.trip ∷ []) may.agrees.fits
-    (subst (λ (act : Act). All (IsLawfulAct tables may.number) (act ∷ [])) c.in-Hold.is may.lawful))
-    (ap (after_act c.args.known.now.durable) c.in-Hold.is)
+pub returns-in-Hold : goal.returns-in-Hold
+returns-in-Hold g c =
+    let e = c.store-in-Hold.ensures in
+    commits g.B.Printer c.args.seal.now c.args.known.now c.args.act.now _ c.in-Hold.is c.args.board.now
+    c.store-in-Hold.new.board c.store-in-Hold.result c.args.steps.now c.store-in-Hold.new.steps
+    c.store-in-Hold.new.known _ refl refl refl refl
+    e.durable e.agrees e.points e.text e.turn e.beside e.cause e.steps
 
 pub print_display-requires : goal.print_display-requires
 print_display-requires g c = subst (IsFor c.args.known.now.durable) c.in-Show.is c.requires.act
 
-pub store-requires-clause-slot : goal.store-requires-clause-slot
-store-requires-clause-slot g c = c.requires.may.1.agrees.slot
+pub store-requires : goal.store-requires
+store-requires g c = record {
+  slot = c.requires.may.1.agrees.slot;
+  settled = c.requires.may.1.agrees.settled;
+  range = subst (IsFor c.args.known.now.durable) c.in-Enter.is c.requires.act;
+}
 
-pub store-requires-clause-settled : goal.store-requires-clause-settled
-store-requires-clause-settled g c = c.requires.may.1.agrees.settled
-
-pub store-requires-in-Hold-clause-settled : goal.store-requires-in-Hold-clause-settled
-store-requires-in-Hold-clause-settled g c = c.requires.may.1.agrees.settled
-
-pub store-requires-clause-range : goal.store-requires-clause-range
-store-requires-clause-range g c = subst (IsFor c.args.known.now.durable) c.in-Enter.is c.requires.act
-
-pub store-requires-in-Hold-clause-slot : goal.store-requires-in-Hold-clause-slot
-store-requires-in-Hold-clause-slot g c = c.requires.may.1.agrees.slot
-
-pub store-requires-in-Hold-clause-range : goal.store-requires-in-Hold-clause-range
-store-requires-in-Hold-clause-range g c = subst (IsFor c.args.known.now.durable) c.in-Hold.is c.requires.act
+pub store-requires-in-Hold : goal.store-requires-in-Hold
+store-requires-in-Hold g c = record {
+  slot = c.requires.may.1.agrees.slot;
+  settled = c.requires.may.1.agrees.settled;
+  range = subst (IsFor c.args.known.now.durable) c.in-Hold.is c.requires.act;
+}
 
 pub print_receipt-requires-clause-receipt : goal.print_receipt-requires-clause-receipt
 print_receipt-requires-clause-receipt g c =
@@ -98,123 +127,3 @@ print_receipt-requires-clause-receipt g c =
 
 pub print_receipt-requires-clause-seal : goal.print_receipt-requires-clause-seal
 print_receipt-requires-clause-seal g c = c.requires.seal
-
-pub returns-in-Show-clause-durable : goal.returns-in-Show-clause-durable
-returns-in-Show-clause-durable g c =
-    on_ok c.print_display.result _ (sym (ap (after_act c.args.known.now.durable) c.in-Show.is))
-
-pub returns-in-Show-clause-whole : goal.returns-in-Show-clause-whole
-returns-in-Show-clause-whole g c = λ told. prints_as c.args.seal.now c.print_display.result
-    (g.B.Printer.printed c.args.board.now) (g.B.Printer.printed c.print_display.new.board) c.args.act.now _ c.in-Show.is
-    (c.print_display.ensures.printed.whole told)
-
-pub returns-in-Show-clause-cause : goal.returns-in-Show-clause-cause
-returns-in-Show-clause-cause g c = c.print_display.ensures.printed.cause
-
-pub returns-in-Show-clause-steps : goal.returns-in-Show-clause-steps
-returns-in-Show-clause-steps g c =
-    print_steps c.args.act.now c.args.steps.now c.print_display.new.steps c.print_display.ensures.steps
-
-pub returns-in-Refuse-clause-durable : goal.returns-in-Refuse-clause-durable
-returns-in-Refuse-clause-durable g c =
-    on_ok c.print_refusal.result _ (sym (ap (after_act c.args.known.now.durable) c.in-Refuse.is))
-
-pub returns-in-Refuse-clause-whole : goal.returns-in-Refuse-clause-whole
-returns-in-Refuse-clause-whole g c = λ told. prints_as c.args.seal.now c.print_refusal.result
-    (g.B.Printer.printed c.args.board.now) (g.B.Printer.printed c.print_refusal.new.board) c.args.act.now _
-    c.in-Refuse.is
-    (c.print_refusal.ensures.printed.whole told)
-
-pub returns-in-Refuse-clause-cause : goal.returns-in-Refuse-clause-cause
-returns-in-Refuse-clause-cause g c = c.print_refusal.ensures.printed.cause
-
-pub returns-in-Refuse-clause-steps : goal.returns-in-Refuse-clause-steps
-returns-in-Refuse-clause-steps g c =
-    print_steps c.args.act.now c.args.steps.now c.print_refusal.new.steps c.print_refusal.ensures.steps
-
-pub returns-in-Receipt-clause-durable : goal.returns-in-Receipt-clause-durable
-returns-in-Receipt-clause-durable g c =
-    on_ok c.print_receipt.result _ (sym (ap (after_act c.args.known.now.durable) c.in-Receipt.is))
-
-pub returns-in-Receipt-clause-whole : goal.returns-in-Receipt-clause-whole
-returns-in-Receipt-clause-whole g c = λ told. prints_as c.args.seal.now c.print_receipt.result
-    (g.B.Printer.printed c.args.board.now) (g.B.Printer.printed c.print_receipt.new.board) c.args.act.now _
-    c.in-Receipt.is
-    (c.print_receipt.ensures.printed.whole told)
-
-pub returns-in-Receipt-clause-cause : goal.returns-in-Receipt-clause-cause
-returns-in-Receipt-clause-cause g c = c.print_receipt.ensures.printed.cause
-
-pub returns-in-Receipt-clause-steps : goal.returns-in-Receipt-clause-steps
-returns-in-Receipt-clause-steps g c =
-    print_steps c.args.act.now c.args.steps.now c.print_receipt.new.steps c.print_receipt.ensures.steps
-
-pub returns-in-Enter-clause-durable : goal.returns-in-Enter-clause-durable
-returns-in-Enter-clause-durable g c = leaves_as c.store.result c.args.known.now.durable c.store.new.known.durable
-    c.args.act.now _ c.in-Enter.is c.store.ensures.durable
-
-pub returns-in-Enter-clause-agrees : goal.returns-in-Enter-clause-agrees
-returns-in-Enter-clause-agrees g c = λ tables may. c.store.ensures.agrees tables
-    (fits_after tables may.number c.args.known.now.durable (Enter c.in-Enter.entry ∷ []) may.agrees.fits
-    (subst (λ (act : Act). All (IsLawfulAct tables may.number) (act ∷ [])) c.in-Enter.is may.lawful))
-
-pub returns-in-Enter-clause-whole : goal.returns-in-Enter-clause-whole
-returns-in-Enter-clause-whole g c = λ told. on_ok c.store.result _
-    (prints_none (g.B.Printer.printed c.args.board.now) (g.B.Printer.printed c.store.new.board)
-    (act_text c.args.seal.now c.args.act.now) (ap (act_text c.args.seal.now) c.in-Enter.is) c.store.ensures.text)
-
-pub returns-in-Enter-clause-beside : goal.returns-in-Enter-clause-beside
-returns-in-Enter-clause-beside g c = c.store.ensures.beside
-
-pub returns-in-Enter-clause-cause : goal.returns-in-Enter-clause-cause
-returns-in-Enter-clause-cause g c = c.store.ensures.cause
-
-pub returns-in-Enter-clause-steps : goal.returns-in-Enter-clause-steps
-returns-in-Enter-clause-steps g c =
-    commit_steps c.args.act.now _ c.args.steps.now c.store.new.steps c.in-Enter.is refl c.store.ensures.steps
-
-pub returns-in-Hold-clause-durable : goal.returns-in-Hold-clause-durable
-returns-in-Hold-clause-durable g c = leaves_as c.store-in-Hold.result c.args.known.now.durable
-    c.store-in-Hold.new.known.durable c.args.act.now _ c.in-Hold.is c.store-in-Hold.ensures.durable
-
-pub returns-in-Hold-clause-agrees : goal.returns-in-Hold-clause-agrees
-returns-in-Hold-clause-agrees g c = λ tables may. c.store-in-Hold.ensures.agrees tables
-    (fits_after tables may.number c.args.known.now.durable (Hold c.in-Hold.trip ∷ []) may.agrees.fits
-    (subst (λ (act : Act). All (IsLawfulAct tables may.number) (act ∷ [])) c.in-Hold.is may.lawful))
-
-pub returns-in-Hold-clause-whole : goal.returns-in-Hold-clause-whole
-returns-in-Hold-clause-whole g c = λ told. on_ok c.store-in-Hold.result _
-    (prints_none (g.B.Printer.printed c.args.board.now) (g.B.Printer.printed c.store-in-Hold.new.board)
-    (act_text c.args.seal.now c.args.act.now) (ap (act_text c.args.seal.now) c.in-Hold.is) c.store-in-Hold.ensures.text)
-
-pub returns-in-Hold-clause-beside : goal.returns-in-Hold-clause-beside
-returns-in-Hold-clause-beside g c = c.store-in-Hold.ensures.beside
-
-pub returns-in-Hold-clause-cause : goal.returns-in-Hold-clause-cause
-returns-in-Hold-clause-cause g c = c.store-in-Hold.ensures.cause
-
-pub returns-in-Hold-clause-steps : goal.returns-in-Hold-clause-steps
-returns-in-Hold-clause-steps g c = commit_steps c.args.act.now _ c.args.steps.now c.store-in-Hold.new.steps c.in-Hold.is
-    refl c.store-in-Hold.ensures.steps
-
-pub returns-in-Show-clause-turn : goal.returns-in-Show-clause-turn
-returns-in-Show-clause-turn g c = λ told. turn_none g.B.Printer c.print_display.result c.args.known.now.durable
-    c.args.act.now _ c.in-Show.is c.args.board.now c.print_display.new.board refl c.print_display.ensures.printed.store
-
-pub returns-in-Refuse-clause-turn : goal.returns-in-Refuse-clause-turn
-returns-in-Refuse-clause-turn g c = λ told. turn_none g.B.Printer c.print_refusal.result c.args.known.now.durable
-    c.args.act.now _ c.in-Refuse.is c.args.board.now c.print_refusal.new.board refl
-    c.print_refusal.ensures.printed.store
-
-pub returns-in-Receipt-clause-turn : goal.returns-in-Receipt-clause-turn
-returns-in-Receipt-clause-turn g c = λ told. turn_none g.B.Printer c.print_receipt.result c.args.known.now.durable
-    c.args.act.now _ c.in-Receipt.is c.args.board.now c.print_receipt.new.board refl
-    c.print_receipt.ensures.printed.store
-
-pub returns-in-Enter-clause-turn : goal.returns-in-Enter-clause-turn
-returns-in-Enter-clause-turn g c = λ told. turn_one g.B.Printer c.store.result c.args.known.now.durable
-    c.args.act.now _ c.in-Enter.is c.args.board.now c.store.new.board _ refl (c.store.ensures.turn told)
-
-pub returns-in-Hold-clause-turn : goal.returns-in-Hold-clause-turn
-returns-in-Hold-clause-turn g c = λ told. turn_one g.B.Printer c.store-in-Hold.result c.args.known.now.durable
-    c.args.act.now _ c.in-Hold.is c.args.board.now c.store-in-Hold.new.board _ refl (c.store-in-Hold.ensures.turn told)

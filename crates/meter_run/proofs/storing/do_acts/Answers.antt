@@ -1,9 +1,10 @@
 use Rattle.std.proofs.{Common.{◌++◌, ◌+◌, ◌∙◌, List, ap, arith, refl, subst, sym}, lemmas.List.{append-nil, take_all}}
-use Rattle.{outside.proofs.Laws.{keeps_none}, meter_run.{specs.PointLaws.{keeps_still}, proofs.ActsOnStore.{turn_more}}}
-use Rattle.meter_run.specs.{Commits.{after_acts}, Deeds.{changes_of, deeds_of, texts}, InTurn.{CommitsInTurn}}
-use Rattle.meter_run.{specs.Common.{Act}, proofs.EventLists.{counts_more, not_ok, true_is, went_well, went_wrong}}
+use Rattle.{std.proofs.lemmas.Grind.{common_steps}, outside.proofs.Laws.{keeps_none}, meter_run.specs.Common.{Act}}
+use Rattle.meter_run.specs.Commits.{after_acts}
+use Rattle.meter_run.specs.{Deeds.{changes_of, deeds_of, texts}, InTurn.{CommitsInTurn}, PointLaws.{keeps_still}}
 use Rattle.meter_run.{specs.StoreLaws.{beside_none, beside_then}, proofs.CarriedActs.{after_more, are_after, are_at}}
 use Rattle.meter_run.proofs.ActsOnStore.{may_at, points_more, points_whole, steps_more, steps_whole, text_more}
+use Rattle.meter_run.proofs.{ActsOnStore.{turn_more}, EventLists.{counts_more, not_ok, true_is, went_well, went_wrong}}
 use Rattle.meter_run.proofs.storing.do_acts.Goals as goal
 
 pub do_act-requires-clause-act : goal.do_act-requires-clause-act
@@ -46,8 +47,7 @@ loop-act-preserved g c =
       turn = λ told. turn_more g.B.Printer t k a b b' acts n _ c.loop-act-test.true i.printed c.args.known.now.durable
           c.loop-act.known.durable i.durable (i.turn told) (c.in_ok-do_act.ensures.turn told);
       beside = λ told. beside_then g.B.Printer a b b' (i.beside told) (c.do_act.ensures.beside told);
-      faults = counts_more (g.B.Printer.faults c.args.board.now) (g.B.Printer.faults c.loop-act.board)
-          (g.B.Printer.faults c.do_act.new.board) i.faults
+      faults = counts_more _ _ _ i.faults
           (c.in_ok-do_act.ensures.cause.kept true_is);
       steps = steps_more acts n _ c.args.steps.now c.loop-act.steps c.do_act.new.steps c.loop-act-test.true i.steps
           c.do_act.ensures.steps;
@@ -71,70 +71,46 @@ loop-act-init g c =
       steps = omega arith;
     }
 
-pub returns-in_err-do_act-clause-points : goal.returns-in_err-do_act-clause-points
-returns-in_err-do_act-clause-points g c = λ told tables may.
-    let k = c.args.seal.now in
-    let n = c.loop-act.act-index in
-    let acts = c.args.acts.now in
-    let i = c.loop-act.invariant in
-    let d = c.args.known.now.durable in
-    points_whole g.B.Printer tables k c.args.board.now c.do_act.new.board d acts (n + 1)
-    (points_more g.B.Printer tables k c.args.board.now c.loop-act.board c.do_act.new.board acts n _ c.loop-act-test.true
-    i.printed d c.loop-act.known.durable i.durable (i.points told tables may) (c.do_act.ensures.points told tables
-    (may_at g.B.Printer tables c.args.known.now c.loop-act.known c.args.board.now c.loop-act.board c.args.acts.now
-    c.loop-act.act-index _ c.loop-act-test.true may (c.loop-act.invariant.agrees tables may))))
+pub returns-in_err-do_act : goal.returns-in_err-do_act
+returns-in_err-do_act g c = record {
+  durable = not_ok _ c.from_residual.result _ c.from_residual.ensures.1;
+  agrees = λ tables may. not_ok _ c.from_residual.result _ c.from_residual.ensures.1;
+  whole = λ told. not_ok _ c.from_residual.result _ c.from_residual.ensures.1;
+  points = λ told tables may.
+      let k = c.args.seal.now in
+      let n = c.loop-act.act-index in
+      let acts = c.args.acts.now in
+      let i = c.loop-act.invariant in
+      let d = c.args.known.now.durable in
+      points_whole g.B.Printer tables k c.args.board.now c.do_act.new.board d acts (n + 1)
+      (points_more g.B.Printer tables k c.args.board.now c.loop-act.board c.do_act.new.board acts n _
+      c.loop-act-test.true
+      i.printed d c.loop-act.known.durable i.durable (i.points told tables may) (c.do_act.ensures.points told tables
+      (may_at g.B.Printer tables c.args.known.now c.loop-act.known c.args.board.now c.loop-act.board c.args.acts.now
+      c.loop-act.act-index _ c.loop-act-test.true may (c.loop-act.invariant.agrees tables may))));
+  turn = λ told. not_ok _ c.from_residual.result _ c.from_residual.ensures.1;
+  beside = λ told. beside_then g.B.Printer c.args.board.now c.loop-act.board
+      c.do_act.new.board (c.loop-act.invariant.beside told) (c.do_act.ensures.beside told);
+  cause = went_wrong _ _ _ _ c.from_residual.result c.from_residual.ensures.0
+      c.loop-act.invariant.faults c.in_err-do_act.ensures.cause;
+  steps = steps_whole c.args.acts.now c.loop-act.act-index _ c.args.steps.now
+      c.loop-act.steps c.do_act.new.steps c.loop-act-test.true c.loop-act.invariant.steps c.do_act.ensures.steps;
+}
 
-pub returns-in_err-do_act-clause-beside : goal.returns-in_err-do_act-clause-beside
-returns-in_err-do_act-clause-beside g c = λ told. beside_then g.B.Printer c.args.board.now c.loop-act.board
-    c.do_act.new.board (c.loop-act.invariant.beside told) (c.do_act.ensures.beside told)
-
-pub returns-in_err-do_act-clause-steps : goal.returns-in_err-do_act-clause-steps
-returns-in_err-do_act-clause-steps g c = steps_whole c.args.acts.now c.loop-act.act-index _ c.args.steps.now
-    c.loop-act.steps c.do_act.new.steps c.loop-act-test.true c.loop-act.invariant.steps c.do_act.ensures.steps
-
-pub returns-clause-points : goal.returns-clause-points
-returns-clause-points g c =
-    λ told tables may. points_whole g.B.Printer tables c.args.seal.now c.args.board.now c.loop-act.board
-    c.args.known.now.durable c.args.acts.now c.loop-act.act-index (c.loop-act.invariant.points told tables may)
-
-pub returns-in_err-do_act-clause-durable : goal.returns-in_err-do_act-clause-durable
-returns-in_err-do_act-clause-durable g c = not_ok _ c.from_residual.result _ c.from_residual.ensures.1
-
-pub returns-in_err-do_act-clause-agrees : goal.returns-in_err-do_act-clause-agrees
-returns-in_err-do_act-clause-agrees g c = λ tables may. not_ok _ c.from_residual.result _ c.from_residual.ensures.1
-
-pub returns-in_err-do_act-clause-whole : goal.returns-in_err-do_act-clause-whole
-returns-in_err-do_act-clause-whole g c = λ told. not_ok _ c.from_residual.result _ c.from_residual.ensures.1
-
-pub returns-in_err-do_act-clause-cause : goal.returns-in_err-do_act-clause-cause
-returns-in_err-do_act-clause-cause g c =
-    went_wrong (g.B.Printer.faults c.args.board.now) (g.B.Printer.faults c.loop-act.board)
-    (g.B.Printer.faults c.do_act.new.board) _ c.from_residual.result c.from_residual.ensures.0
-    c.loop-act.invariant.faults c.in_err-do_act.ensures.cause
-
-pub returns-clause-durable : goal.returns-clause-durable
-returns-clause-durable g c = c.loop-act.invariant.durable
-    ∙ ap (after_acts c.args.known.now.durable) (take_all c.loop-act.act-index c.args.acts.now c.loop-act-test.false)
-
-pub returns-clause-agrees : goal.returns-clause-agrees
-returns-clause-agrees g c = c.loop-act.invariant.agrees
-
-pub returns-clause-whole : goal.returns-clause-whole
-returns-clause-whole g c = λ told.
-    c.loop-act.invariant.printed told ∙ ap (λ (acts : List Act). g.B.Printer.printed c.args.board.now
-    ++ texts c.args.seal.now (deeds_of acts)) (take_all c.loop-act.act-index c.args.acts.now c.loop-act-test.false)
-
-pub returns-clause-cause : goal.returns-clause-cause
-returns-clause-cause g c =
-    went_well (g.B.Printer.faults c.args.board.now) (g.B.Printer.faults c.loop-act.board) tt c.loop-act.invariant.faults
-
-pub returns-in_err-do_act-clause-turn : goal.returns-in_err-do_act-clause-turn
-returns-in_err-do_act-clause-turn g c = λ told. not_ok _ c.from_residual.result _ c.from_residual.ensures.1
-
-pub returns-clause-turn : goal.returns-clause-turn
-returns-clause-turn g c = λ told. subst (λ (acts : List Act). CommitsInTurn g.B.Printer c.args.known.now.durable
-    (changes_of (deeds_of acts)) c.args.board.now c.loop-act.board)
-    (take_all c.loop-act.act-index c.args.acts.now c.loop-act-test.false) (c.loop-act.invariant.turn told)
-
-pub returns-clause-beside : goal.returns-clause-beside
-returns-clause-beside g c = c.loop-act.invariant.beside
+pub returns : goal.returns
+returns g c = record {
+  durable = c.loop-act.invariant.durable
+      ∙ ap (after_acts c.args.known.now.durable) (take_all c.loop-act.act-index c.args.acts.now c.loop-act-test.false);
+  agrees = c.loop-act.invariant.agrees;
+  whole = λ told.
+      c.loop-act.invariant.printed told ∙ ap (λ (acts : List Act). g.B.Printer.printed c.args.board.now
+      ++ texts c.args.seal.now (deeds_of acts)) (take_all c.loop-act.act-index c.args.acts.now c.loop-act-test.false);
+  points = λ told tables may. points_whole g.B.Printer tables c.args.seal.now c.args.board.now c.loop-act.board
+      c.args.known.now.durable c.args.acts.now c.loop-act.act-index (c.loop-act.invariant.points told tables may);
+  turn = λ told. subst (λ (acts : List Act). CommitsInTurn g.B.Printer c.args.known.now.durable
+      (changes_of (deeds_of acts)) c.args.board.now c.loop-act.board)
+      (take_all c.loop-act.act-index c.args.acts.now c.loop-act-test.false) (c.loop-act.invariant.turn told);
+  beside = c.loop-act.invariant.beside;
+  cause = went_well _ _ tt c.loop-act.invariant.faults;
+  steps = grind (arith, common_steps);
+}

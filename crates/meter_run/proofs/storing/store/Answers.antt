@@ -9,9 +9,6 @@ returns-in-Ok-clause-agrees g c = λ tables fits. record {
   fits = subst (λ (d : Durable). ForSome d.hold (Fits tables)) (sym c.in-Ok.ensures.state) fits;
 }
 
-pub returns-in-Err-clause-agrees : goal.returns-in-Err-clause-agrees
-returns-in-Err-clause-agrees g c = λ tables fits. tt
-
 pub returns-in-Ok-clause-points : goal.returns-in-Ok-clause-points
 returns-in-Ok-clause-points g c = λ told tables seal deed fits fits_after is.
     let d = c.args.known.now.durable in
@@ -26,14 +23,17 @@ returns-in-Ok-clause-turn g c = λ told. record {
   leaves = c.commit.ensures.any_moment told;
 }
 
-pub returns-in-Err-clause-turn : goal.returns-in-Err-clause-turn
-returns-in-Err-clause-turn g c = λ told. tt
-
 pub returns-in-Ok-clause-beside : goal.returns-in-Ok-clause-beside
 returns-in-Ok-clause-beside g c = λ told.
     let d = c.args.known.now.durable in
     beside_commit g.B.Printer c.args.known.now.place d (after d c.args.change.now) c.args.board.now c.commit.new.board
     c.requires.slot c.commit.ensures.beside (c.commit.ensures.any_moment told)
+
+pub returns-in-Err-clause-agrees : goal.returns-in-Err-clause-agrees
+returns-in-Err-clause-agrees g c = λ tables fits. tt
+
+pub returns-in-Err-clause-turn : goal.returns-in-Err-clause-turn
+returns-in-Err-clause-turn g c = λ told. tt
 
 pub returns-in-Err-clause-points : goal.returns-in-Err-clause-points
 returns-in-Err-clause-points g c = λ told tables seal deed fits fits_after is.
