@@ -63,44 +63,40 @@ module _ {D L : Type 0} {N : ℕ} (B : Ghosts D N L) where
 module _ {E D L : Type 0} {N : ℕ} (F : FileGhosts E) (B : Ghosts D N L) where
   -- ---- the log isn't read
 
+  -- nothing was found, and nothing is shown
+  none_found : {call : Option Call} {files files' : E} {log log' : D} {steps steps' : ℕ} {end : Ended}
+      → MayEnd call (B.image log) (F.rest files 1) (F.rest files' 1) (Rose (F.faults files 1) (F.faults files' 1))
+      (Rose (B.faults log) (B.faults log')) end [] [] → shown_of end [] ≡ [] → B.printed log' ≡ B.printed log
+      → ((list : List Record) → StandsFor list (B.image log) → LeavesLog B list [] log log' (status_of end))
+      → steps' ≤ steps + 258 → CallReachesLine F B call files files' log log' steps steps' end
+  none_found {log = log} {end = end} may none text leaves few = record {
+    course = end;
+    found = [];
+    filed = [];
+    may = may;
+    stands = inl (record {
+      ended_is = refl;
+      shown = λ told. text ∙ (sym (append-nil (B.printed log)) ∙ ap (λ (t : List ℕ). B.printed log ++ t) (sym none));
+    });
+    leaves = λ file. leaves;
+    few = λ file. omega (arith, few);
+  }
+
   pub reaches_unread : (call : Option Call) (files files' : E) (log log' : D) (steps steps' : ℕ) (fault : FindFault)
       → IsCommand call
       → ((slot : ℕ) → fault ≡ faults.BadSlot slot → IsLowestBad (B.image log) slot) → (fault ≡ faults.Broken
       → IsBroken (B.image log)) → (fault ≡ faults.LogFault → Rose (B.faults log) (B.faults log'))
       → LeavesFromSync B (fault ≡ faults.LogFault) log log' (IsAsHeld B log) → B.printed log' ≡ B.printed log
       → steps' ≤ steps + 258 → CallReachesLine F B call files files' log log' steps steps' (unread_end fault)
-  reaches_unread call files files' log log' steps steps'
-      (faults.BadSlot slot) command bad broken failed synced text few = record {
-        course = BadLog slot;
-        found = [];
-        filed = [];
-        may = (command, bad slot refl);
-        stands = inl (record { ended_is = refl; shown = λ told. text ∙ sym (append-nil (B.printed log)) });
-        leaves = λ file list stands. let lowest = bad slot refl in
-            absurd (none_bad (B.image log) list slot lowest.small stands lowest.bad);
-        few = λ file. omega (arith, few);
-      }
-  reaches_unread call files files' log log' steps steps' faults.Broken command bad broken failed synced text
-      few = record {
-        course = BrokenLog;
-        found = [];
-        filed = [];
-        may = (command, broken refl);
-        stands = inl (record { ended_is = refl; shown = λ told. text ∙ sym (append-nil (B.printed log)) });
-        leaves = λ file list stands. absurd ((broken refl).no_list list stands);
-        few = λ file. omega (arith, few);
-      }
-  reaches_unread call files files' log log' steps steps' faults.LogFault command bad broken failed synced text
-      few = record {
-        course = BoardFault;
-        found = [];
-        filed = [];
-        may = (inl refl, failed refl);
-        stands = inl (record { ended_is = refl; shown = λ told. text ∙ sym (append-nil (B.printed log)) });
-        leaves = λ file list stands. leaves_found B log log' list (faults.LogFault ≡ faults.LogFault) 8
-            (λ is. refl) refl stands synced;
-        few = λ file. omega (arith, few);
-      }
+  reaches_unread call files files' log log' steps steps' (faults.BadSlot slot) command bad broken failed synced text few =
+      let lowest = bad slot refl in
+      none_found (command, lowest) refl text
+      (λ list stands. absurd (none_bad (B.image log) list slot lowest.small stands lowest.bad)) few
+  reaches_unread call files files' log log' steps steps' faults.Broken command bad broken failed synced text few =
+      none_found (command, broken refl) refl text (λ list stands. absurd ((broken refl).no_list list stands)) few
+  reaches_unread call files files' log log' steps steps' faults.LogFault command bad broken failed synced text few =
+      none_found (inl refl, failed refl) refl text (λ list stands. leaves_found B log log' list
+      (faults.LogFault ≡ faults.LogFault) 8 (λ is. refl) refl stands synced) few
 
   -- ---- the roll is filed
 
