@@ -3,14 +3,13 @@ use Rattle.std.proofs.Common.{[], ℕ, ◌++◌, ◌+◌, ◌-◌, ◌∙◌, �
 use Rattle.std.proofs.{Common.{length, refl, subst, sym}, lemmas.List.{append-nil, take_all}}
 use Rattle.{outside.specs.declared.files.Files.{Ghosts as FileGhosts}, slot_store.proofs.Laws.{from_sync_as, goes_on}}
 use Rattle.log_commands.specs.{BeforeLastLine.{CallReachesLine}, LogList.{StandsFor, last_ones}, ShownLog.{texts_of}}
-use Rattle.log_commands.specs.{Calls.{FilesUpTo, IsCommand, LeavesLog, MayEnd, shown_of}, Common.{Show, Shown, TooLong}}
-use Rattle.log_commands.specs.Common.{BadLog, BadWords, Begins, BoardFault, BrokenLog, Call, Ended, File, FileEnd}
-use Rattle.log_commands.specs.Common.{Filed, Ghosts, IsAsHeld, LeavesFromSync, LeavesOnly, OtherTaxi, ReadFault, Rose}
+use Rattle.log_commands.specs.{Calls.{FilesUpTo, IsCommand, LeavesLog, MayEnd, shown_of}, Filed.{EndsAt, IsFiledOf}}
+use Rattle.log_commands.specs.Common.{BadWords, Begins, BoardFault, Call, Ended, File, FileEnd, Filed, Ghosts, IsAsHeld}
+use Rattle.log_commands.specs.Common.{LeavesFromSync, LeavesOnly, OtherTaxi, ReadFault, Rose, Show, Shown, TooLong}
 use Rattle.log_commands.specs.{Endings.{filing_end, status_of, unread_end}, declared.finding.FindFault.{FindFault}}
-use Rattle.log_commands.{specs.{Filed.{EndsAt, IsFiledOf}, declared.tail.Tail.{Tail}}, proofs.AgainFiled.{ends_in_roll}}
 use Rattle.log_commands.specs.Filings.{EndsAs, FailsInRoll, FilesRoll, IsTailOf, LeavesSome, StandsForSome, newest_of}
 use Rattle.log_commands.{specs.{Record.{Record}, Unread.{IsBroken, IsLowestBad}}, proofs.OneList.{none_bad, one_list}}
-use Rattle.log_commands.proofs.OtherSlots.{bounds}
+use Rattle.log_commands.{specs.declared.tail.Tail.{Tail}, proofs.{AgainFiled.{ends_in_roll}, OtherSlots.{bounds}}}
 use Rattle.log_commands.specs.declared.file_roll.FileEnd.TheVariants as ends
 use Rattle.log_commands.specs.declared.finding.FindFault.TheVariants as faults
 
