@@ -3,14 +3,13 @@ use Rattle.std.proofs.Common.{[], ℕ, ◌++◌, ◌+◌, ◌-◌, ◌∙◌, �
 use Rattle.std.proofs.{Common.{length, refl, subst, sym}, lemmas.List.{append-nil, take_all}}
 use Rattle.{outside.specs.declared.files.Files.{Ghosts as FileGhosts}, slot_store.proofs.Laws.{from_sync_as, goes_on}}
 use Rattle.log_commands.specs.{BeforeLastLine.{CallReachesLine}, LogList.{StandsFor, last_ones}, ShownLog.{texts_of}}
-use Rattle.log_commands.specs.{Calls.{FilesUpTo, IsCommand, LeavesLog, MayEnd, shown_of}, Common.{Show, Shown, TooLong}}
-use Rattle.log_commands.specs.Common.{BadLog, BadWords, Begins, BoardFault, BrokenLog, Call, Ended, File, FileEnd}
-use Rattle.log_commands.specs.Common.{Filed, Ghosts, IsAsHeld, LeavesFromSync, LeavesOnly, OtherTaxi, ReadFault, Rose}
+use Rattle.log_commands.specs.{Calls.{FilesUpTo, IsCommand, LeavesLog, MayEnd, shown_of}, Filed.{EndsAt, IsFiledOf}}
+use Rattle.log_commands.specs.Common.{BadWords, Begins, BoardFault, Call, Ended, File, FileEnd, Filed, Ghosts, IsAsHeld}
+use Rattle.log_commands.specs.Common.{LeavesFromSync, LeavesOnly, OtherTaxi, ReadFault, Rose, Show, Shown, TooLong}
 use Rattle.log_commands.specs.{Endings.{filing_end, status_of, unread_end}, declared.finding.FindFault.{FindFault}}
-use Rattle.log_commands.{specs.{Filed.{EndsAt, IsFiledOf}, declared.tail.Tail.{Tail}}, proofs.AgainFiled.{ends_in_roll}}
 use Rattle.log_commands.specs.Filings.{EndsAs, FailsInRoll, FilesRoll, IsTailOf, LeavesSome, StandsForSome, newest_of}
 use Rattle.log_commands.{specs.{Record.{Record}, Unread.{IsBroken, IsLowestBad}}, proofs.OneList.{none_bad, one_list}}
-use Rattle.log_commands.proofs.OtherSlots.{bounds}
+use Rattle.log_commands.{specs.declared.tail.Tail.{Tail}, proofs.{AgainFiled.{ends_in_roll}, OtherSlots.{bounds}}}
 use Rattle.log_commands.specs.declared.file_roll.FileEnd.TheVariants as ends
 use Rattle.log_commands.specs.declared.finding.FindFault.TheVariants as faults
 
@@ -63,44 +62,40 @@ module _ {D L : Type 0} {N : ℕ} (B : Ghosts D N L) where
 module _ {E D L : Type 0} {N : ℕ} (F : FileGhosts E) (B : Ghosts D N L) where
   -- ---- the log isn't read
 
+  -- nothing was found, and nothing is shown
+  none_found : {call : Option Call} {files files' : E} {log log' : D} {steps steps' : ℕ} {end : Ended}
+      → MayEnd call (B.image log) (F.rest files 1) (F.rest files' 1) (Rose (F.faults files 1) (F.faults files' 1))
+      (Rose (B.faults log) (B.faults log')) end [] [] → shown_of end [] ≡ [] → B.printed log' ≡ B.printed log
+      → ((list : List Record) → StandsFor list (B.image log) → LeavesLog B list [] log log' (status_of end))
+      → steps' ≤ steps + 258 → CallReachesLine F B call files files' log log' steps steps' end
+  none_found {log = log} {end = end} may none text leaves few = record {
+    course = end;
+    found = [];
+    filed = [];
+    may = may;
+    stands = inl (record {
+      ended_is = refl;
+      shown = λ told. text ∙ (sym (append-nil (B.printed log)) ∙ ap (λ (t : List ℕ). B.printed log ++ t) (sym none));
+    });
+    leaves = λ file. leaves;
+    few = λ file. omega (arith, few);
+  }
+
   pub reaches_unread : (call : Option Call) (files files' : E) (log log' : D) (steps steps' : ℕ) (fault : FindFault)
       → IsCommand call
       → ((slot : ℕ) → fault ≡ faults.BadSlot slot → IsLowestBad (B.image log) slot) → (fault ≡ faults.Broken
       → IsBroken (B.image log)) → (fault ≡ faults.LogFault → Rose (B.faults log) (B.faults log'))
       → LeavesFromSync B (fault ≡ faults.LogFault) log log' (IsAsHeld B log) → B.printed log' ≡ B.printed log
       → steps' ≤ steps + 258 → CallReachesLine F B call files files' log log' steps steps' (unread_end fault)
-  reaches_unread call files files' log log' steps steps'
-      (faults.BadSlot slot) command bad broken failed synced text few = record {
-        course = BadLog slot;
-        found = [];
-        filed = [];
-        may = (command, bad slot refl);
-        stands = inl (record { ended_is = refl; shown = λ told. text ∙ sym (append-nil (B.printed log)) });
-        leaves = λ file list stands. let lowest = bad slot refl in
-            absurd (none_bad (B.image log) list slot lowest.small stands lowest.bad);
-        few = λ file. omega (arith, few);
-      }
-  reaches_unread call files files' log log' steps steps' faults.Broken command bad broken failed synced text
-      few = record {
-        course = BrokenLog;
-        found = [];
-        filed = [];
-        may = (command, broken refl);
-        stands = inl (record { ended_is = refl; shown = λ told. text ∙ sym (append-nil (B.printed log)) });
-        leaves = λ file list stands. absurd ((broken refl).no_list list stands);
-        few = λ file. omega (arith, few);
-      }
-  reaches_unread call files files' log log' steps steps' faults.LogFault command bad broken failed synced text
-      few = record {
-        course = BoardFault;
-        found = [];
-        filed = [];
-        may = (inl refl, failed refl);
-        stands = inl (record { ended_is = refl; shown = λ told. text ∙ sym (append-nil (B.printed log)) });
-        leaves = λ file list stands. leaves_found B log log' list (faults.LogFault ≡ faults.LogFault) 8
-            (λ is. refl) refl stands synced;
-        few = λ file. omega (arith, few);
-      }
+  reaches_unread call files files' log log' steps steps' (faults.BadSlot slot) command bad broken failed synced text few =
+      let lowest = bad slot refl in
+      none_found (command, lowest) refl text
+      (λ list stands. absurd (none_bad (B.image log) list slot lowest.small stands lowest.bad)) few
+  reaches_unread call files files' log log' steps steps' faults.Broken command bad broken failed synced text few =
+      none_found (command, broken refl) refl text (λ list stands. absurd ((broken refl).no_list list stands)) few
+  reaches_unread call files files' log log' steps steps' faults.LogFault command bad broken failed synced text few =
+      none_found (inl refl, failed refl) refl text (λ list stands. leaves_found B log log' list
+      (faults.LogFault ≡ faults.LogFault) 8 (λ is. refl) refl stands synced) few
 
   -- ---- the roll is filed
 

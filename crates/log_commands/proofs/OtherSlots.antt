@@ -1,10 +1,10 @@
 -- What stays of the log when one of its slots is written.
 use Rattle.std.proofs.Common.{[], ℕ, ◌++◌, ◌+◌, ◌-◌, ◌<◌, ◌∙◌, ◌∷◌, ◌≡◌, ◌≢◌, ◌≤◌, List, ap, arith, drop, get_or, inl}
-use Rattle.std.proofs.{Common.{inr, length, length-append, subst, suc, sym, zero}, lemmas.Bool.{cases_eq, cases_lt}}
-use Rattle.{std.proofs.lemmas.List.{drop-append-le, length-drop}, outside.proofs.Laws.{same_slice}}
-use Rattle.{outside.specs.Disk.{IsWithin}, log_commands.specs.Slots.{HasRecord, IsClosed, Spells, slot_at, slot_of}}
+use Rattle.std.proofs.Common.{inr, length, length-append, subst, suc, sym, zero, ⊎_elim}
+use Rattle.std.proofs.lemmas.{Bool.{cases_eq, cases_lt}, List.{drop-append-le, length-drop}}
+use Rattle.outside.{specs.Disk.{IsWithin}, proofs.Laws.{same_slice}}
 use Rattle.log_commands.specs.{Common.{SameBut}, LogList.{AreInSlots, EndsWith, IsCount, RiseFrom, last_ones}}
-use Rattle.log_commands.specs.Record.{Record}
+use Rattle.log_commands.specs.{Record.{Record}, Slots.{HasRecord, IsClosed, Spells, slot_at, slot_of}}
 
 module _ (old new : List ℕ) (slot : ℕ) (same : SameBut (IsWithin (slot_at slot) 512) old new) where
   gate_same : (other : ℕ) → other ≢ slot → get_or new (slot_at other) 0 ≡ get_or old (slot_at other) 0
@@ -79,20 +79,17 @@ bounds last count (inl below) = record {
   small = λ few. below.1;
   great = λ many. absurd (omega (arith, below.0, many));
 }
-bounds last count (inr (many, inl whole)) = record {
-  within = omega (arith, many, whole);
-  most = omega (arith, whole);
-  all = λ few. absurd (omega (arith, few, whole));
-  small = λ few. absurd (omega (arith, few, many));
-  great = λ great. omega (arith, whole);
-}
-bounds last count (inr (many, inr but_one)) = record {
-  within = omega (arith, many, but_one);
-  most = omega (arith, but_one);
-  all = λ few. absurd (omega (arith, few, but_one));
-  small = λ few. absurd (omega (arith, few, many));
-  great = λ great. omega (arith, but_one);
-}
+bounds last count (inr (many, close)) =
+    let near : (255 ≤ count) × (count ≤ 256) =
+    ⊎_elim (λ whole. (omega (arith, whole), omega (arith, whole)))
+    (λ but_one. (omega (arith, but_one), omega (arith, but_one))) close in
+    record {
+      within = omega (arith, many, near.1);
+      most = near.1;
+      all = λ few. absurd (omega (arith, few, near.0));
+      small = λ few. absurd (omega (arith, few, many));
+      great = λ great. near.0;
+    }
 
 -- the records that stay when the next place's slot is written
 abbrev pub kept_of : List Record → List Record

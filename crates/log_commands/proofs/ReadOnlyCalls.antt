@@ -1,7 +1,6 @@
 -- Calls that read alone.
 use Rattle.std.proofs.Common.{ℕ, ◌∙◌, ◌≡◌, List, ap, arith, get_or, inl, inr, length, refl, ⊎_elim}
 use Rattle.outside.{specs.{Disk.{Elapses}, Runs.{LeavesNow}}, proofs.Laws.{leaves_none, leaves_then, leaves_wider}}
-use Rattle.slot_store.specs.Syncs.{IsSynced}
 use Rattle.log_commands.specs.Common.{Ghosts, KeepsStore, MayLeave, ReadsOnly, SameBut}
 
 module _ {D L : Type 0} {N : ℕ} (B : Ghosts D N L) where
@@ -47,18 +46,6 @@ module _ {D L : Type 0} {N : ℕ} (B : Ghosts D N L) where
       → Elapses (B.moment old) (B.moment new) (B.left_since old) (B.left_since new)
       (MayLeave (B.image new) (B.in_flight new) (B.printed new)) → ReadsOnly B old new
   reads_once old new only_now same = reads_sync old new only_now (same_but old new same)
-
-  -- the board behind a sync that succeeded
-  pub synced_by : (old new : D) → LeavesNow B old → SameBut (B.in_flight old) (B.image old) (B.image new)
-      → ((place : ℕ) → B.in_flight new place → B.in_flight old place) → B.printed new ≡ B.printed old
-      → Elapses (B.moment old) (B.moment new) (B.left_since old) (B.left_since new)
-      (MayLeave (B.image new) (B.in_flight new) (B.printed new))
-      → B.image new ≡ B.image old → ((place : ℕ) → ¬ B.in_flight new place) → IsSynced B old new
-  synced_by old new only_now but flight text time same still = record {
-    reads = reads_sync old new only_now but flight text time;
-    same = same;
-    settled = still;
-  }
 
   -- no call
   pub reads_none : (board : D) → LeavesNow B board → ReadsOnly B board board

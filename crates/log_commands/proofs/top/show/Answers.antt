@@ -1,9 +1,10 @@
-use Rattle.std.{specs.Prelude.{is_err}, proofs.Common.{◌∙◌, Err, Some, ap, refl, rules, subst, sym}}
-use Rattle.log_commands.specs.{BeforeLastLine.{CallReachesLine}, Endings.{status_of, unread_end}}
+use Rattle.{std.specs.Prelude.{is_err}, log_commands.proofs.CallEnds.{reaches_cut, reaches_shown, reaches_unread}}
+use Rattle.std.proofs.Common.{ℕ, ◌+◌, ◌-◌, ◌∙◌, ◌≡◌, Err, Some, ap, length, refl, rules, subst, sym}
+use Rattle.log_commands.{specs.BeforeLastLine.{CallReachesLine}, proofs.top.show.Goals.{After-show_records}}
+use Rattle.log_commands.specs.{Calls.{LeavesLogUnwritten}, Endings.{status_of, unread_end}, LogList.{AreInSlots}}
 use Rattle.log_commands.specs.{Common.{Ended, IsAsHeld, Rose, Show}, declared.finding.FindFault.TheVariants.{LogFault}}
-use Rattle.log_commands.proofs.{CallEnds.{reaches_cut, reaches_shown, reaches_unread}, NewestFound.{same_fault}}
 use Rattle.log_commands.proofs.{Causes.{rises_for, rises_ok, rose_later}, LastLines.{search_keeps, search_read}}
-use Rattle.log_commands.proofs.Counted.{found_shown}
+use Rattle.log_commands.proofs.{Counted.{found_shown}, NewestFound.{same_fault}}
 use Rattle.log_commands.proofs.EndCases.{found_same, unread_board, unread_no_read, unread_shows, unread_sync}
 use Rattle.log_commands.proofs.top.show.Given as given
 use Rattle.log_commands.proofs.top.show.Goals as goal
@@ -40,23 +41,36 @@ returns-in-Err g c = record {
 
 -- ---- the records are printed
 
+-- the image in which they are found
+same : (g : given.Over) (c : After-show_records g)
+    → g.G.Printer.image c.find_tail.new.log ≡ g.G.Printer.image c.args.log.now
+same g c = found_same g.G.Printer (IsAsHeld g.G.Printer c.args.log.now) c.args.log.now c.find_tail.new.log
+    c.find_tail.result c.in-Ok.tail c.in-Ok.is c.find_tail.ensures.same
+
+-- the records that are printed are those of the list
+held : (g : given.Over) (c : After-show_records g) (told : g.G.Printer.tells_image)
+    → AreInSlots (g.G.Printer.image c.find_tail.new.log) (c.in-Ok.tail.last + 1 - c.count_of-count.result)
+    (c.in-Ok.ensures.found told).0 × (length (c.in-Ok.ensures.found told).0 ≡ c.count_of-count.result)
+held g c told = found_shown _ _ _ c.in-Ok.tail _ (c.in-Ok.ensures.found told).1 (same g c)
+    (c.in-Ok.ensures.found told).2 _ c.count_of-count.ensures.count
+
+-- how a cut leaves it
+looks : (g : given.Over) (c : After-show_records g) (status : ℕ)
+    → LeavesLogUnwritten g.G.Printer c.args.log.now c.show_records.new.log status
+looks g c status =
+    search_keeps g.G.Printer c.args.log.now c.find_tail.new.log c.show_records.new.log status
+    (g.met.G.Printer.only_now c.find_tail.new.log) c.find_tail.ensures.reads (same g c) c.show_records.ensures.keeps
+
 pub returns-in-Ok-show_records-clause-comes : goal.returns-in-Ok-show_records-clause-comes
 returns-in-Ok-show_records-clause-comes g c = λ told files.
     let found = c.in-Ok.ensures.found told in
-    let held = found_shown _ _ _ c.in-Ok.tail found.0 found.1
-    (found_same g.G.Printer (IsAsHeld g.G.Printer c.args.log.now) c.args.log.now c.find_tail.new.log c.find_tail.result
-    c.in-Ok.tail c.in-Ok.is c.find_tail.ensures.same) found.2 _ c.count_of-count.ensures.count in
-    reaches_shown g.F.Files g.G.Printer files c.args.log.now c.find_tail.new.log c.show_records.new.log c.args.steps.now
-    c.show_records.new.steps found.0 found.1 c.find_tail.ensures.reads.text
-    (λ text. c.in-Ok-show_records.ensures.shown told text found.0 held.0 held.1)
+    let is = held g (goal.at.returns-in-Ok-show_records-clause-comes g c).After-show_records told in
+    reaches_shown g.F.Files g.G.Printer files _ _ _ _ c.show_records.new.steps found.0 found.1
+    c.find_tail.ensures.reads.text (λ text. c.in-Ok-show_records.ensures.shown told text found.0 is.0 is.1)
 
 pub returns-in-Ok-show_records-clause-looks : goal.returns-in-Ok-show_records-clause-looks
 returns-in-Ok-show_records-clause-looks g c =
-    let B = g.G.Printer in
-    search_keeps B c.args.log.now c.find_tail.new.log c.show_records.new.log 0
-    (g.met.G.Printer.only_now c.find_tail.new.log) c.find_tail.ensures.reads
-    (found_same B (IsAsHeld B c.args.log.now) c.args.log.now c.find_tail.new.log c.find_tail.result c.in-Ok.tail
-    c.in-Ok.is c.find_tail.ensures.same) c.show_records.ensures.keeps
+    looks g (goal.at.returns-in-Ok-show_records-clause-looks g c).After-show_records 0
 
 pub returns-in-Ok-show_records-clause-board_fault : goal.returns-in-Ok-show_records-clause-board_fault
 returns-in-Ok-show_records-clause-board_fault g c = record {
@@ -74,12 +88,9 @@ failed g c =
 pub returns-in-Err-show_records-clause-comes : goal.returns-in-Err-show_records-clause-comes
 returns-in-Err-show_records-clause-comes g c = λ told files.
     let found = c.in-Ok.ensures.found told in
-    let held = found_shown _ _ _ c.in-Ok.tail found.0 found.1
-    (found_same g.G.Printer (IsAsHeld g.G.Printer c.args.log.now) c.args.log.now c.find_tail.new.log c.find_tail.result
-    c.in-Ok.tail c.in-Ok.is c.find_tail.ensures.same) found.2 _ c.count_of-count.ensures.count in
-    reaches_cut g.F.Files g.G.Printer files c.args.log.now c.find_tail.new.log c.show_records.new.log c.args.steps.now
-    c.show_records.new.steps found.0 found.1 c.find_tail.ensures.reads.text
-    (λ text. c.show_records.ensures.begun told text found.0 held.0 held.1)
+    let is = held g (goal.at.returns-in-Err-show_records-clause-comes g c).After-show_records told in
+    reaches_cut g.F.Files g.G.Printer files _ _ _ _ c.show_records.new.steps found.0 found.1
+    c.find_tail.ensures.reads.text (λ text. c.show_records.ensures.begun told text found.0 is.0 is.1)
     (failed g c)
 
 pub returns-in-Err-show_records-clause-board_fault : goal.returns-in-Err-show_records-clause-board_fault
@@ -87,10 +98,6 @@ returns-in-Err-show_records-clause-board_fault g c = record { kept = λ no. absu
 
 pub returns-in-Err-show_records-clause-looks : goal.returns-in-Err-show_records-clause-looks
 returns-in-Err-show_records-clause-looks g c =
-    let B = g.G.Printer in
-    search_keeps B c.args.log.now c.find_tail.new.log c.show_records.new.log 8
-    (g.met.G.Printer.only_now c.find_tail.new.log) c.find_tail.ensures.reads
-    (found_same B (IsAsHeld B c.args.log.now) c.args.log.now c.find_tail.new.log c.find_tail.result c.in-Ok.tail
-    c.in-Ok.is c.find_tail.ensures.same) c.show_records.ensures.keeps
+    looks g (goal.at.returns-in-Err-show_records-clause-looks g c).After-show_records 8
 
 -- ---- the status
