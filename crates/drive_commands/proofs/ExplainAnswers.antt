@@ -3,21 +3,20 @@ use Rattle.std.{specs.Prelude.{◌⊎◌}, proofs.{Common.{subst, sym}, lemmas.L
 use Rattle.std.proofs.Common.{[], ℕ, ◌++◌, ◌∙◌, ◌≡◌, Err, List, Ok, Result, Some, ap, arith, flat_map, inl, inr, refl}
 use Rattle.outside.{specs.declared.files.Files.{Ghosts as FileGhosts}, proofs.Laws.{rose_behind}}
 use Rattle.{seal_record.specs.Reading.{params_read}, call_ends.proofs.Laws.{stops-with, text_is}}
-use Rattle.call_ends.specs.{Ending.{EndsUnprinted}, Reads.{FailsOr, GoesTo, ReadsWord}, Tariffs.{HasTariff}}
-use Rattle.{call_ends.specs.{Making.{Makes}, Plan.{Last, Next}}, drive_commands.proofs.TariffDrives.{begins_going}}
+use Rattle.call_ends.specs.{Making.{Makes}, Plan.{Last, Next}, Reads.{GoesTo}, Tariffs.{HasTariff}}
 use Rattle.call_ends.proofs.Laws.{MakesText, ends-failing, ends-lacking, ends-plain, ends-refused, fails-text}
 use Rattle.call_ends.proofs.Laws.{goes-none, goes-on, makes-answer, makes-failing, makes-none, no_fault, refuses-bad}
 use Rattle.store_commands.specs.{StoreEnds.{ended_for_params}, declared.params.ParamsFault.{ParamsFault}}
-use Rattle.drive_commands.specs.BenchSteps.{IsNoDrive, IsWholeDrive, ended_for_drive}
-use Rattle.drive_commands.specs.Common.{BadAt, Drive, DriveFault, Ended, Endless, Event, IsGoing, ParamFault, Params}
-use Rattle.drive_commands.specs.Common.{Refusal, Run, Setting, StreamEnd, TextFault, Tree, Whole, drive_end, ended_for}
-use Rattle.drive_commands.specs.Common.{explanations_of, run_events, setting_by, shows, tariff_in}
+use Rattle.drive_commands.specs.{BenchSteps.{IsNoDrive, IsWholeDrive}, ExplainedText.{explanations_text}}
+use Rattle.drive_commands.specs.Common.{BadAt, Drive, Ended, Endless, EndsUnprinted, Event, FailsOr, IsGoing}
+use Rattle.drive_commands.specs.Common.{ParamFault, Params, ReadsWord, Refusal, Run, Setting, StreamEnd, TextFault}
+use Rattle.drive_commands.specs.Common.{Tree, Whole, drive_end, ended_for, explanations_of, run_events, setting_by}
+use Rattle.drive_commands.specs.{Common.{shows, tariff_in}, Explain.{setting_from, setting_with}}
 use Rattle.drive_commands.specs.Explain.{HasSetting, ending_answer, explain_answer, explain_command, read_setting}
-use Rattle.drive_commands.specs.{Explain.{setting_from, setting_with}, ExplainedText.{explanations_text}}
+use Rattle.drive_commands.proofs.TariffDrives.{begins_going}
 use Rattle.call_ends.specs.declared.ending.Ended.TheVariants as ended
 use Rattle.store_commands.specs.declared.params.ParamsFault.TheVariants as params
 use Rattle.call_ends.specs.declared.tariff.TextFault.TheVariants as texts
-use Rattle.drive_commands.specs.declared.whole_drive.DriveFault.TheVariants as drives
 
 pub explains : MakesText explain_command
 explains = text_is
@@ -50,20 +49,21 @@ module _ (contents left : ℕ → List ℕ) (image : List ℕ) (read_failed : �
   not_3 (inr e) = absurd cc
 
   -- the drive wasn't read
-  course-no_drive : (fault : DriveFault) → IsNoDrive (contents 2) (left 2) fault
-      → (fault ≡ drives.ReadFault → read_failed 2)
-      → EndsUnprinted explain_command contents left image read_failed (ended_for_drive fault)
-  course-no_drive drives.ReadFault h failed =
+  course-no_drive : (why : Ended) → IsNoDrive (contents 2) (left 2) why
+      → (why ≡ ended.ReadFault → read_failed 2)
+      → EndsUnprinted explain_command contents left image read_failed why
+  course-no_drive ended.ReadFault h failed =
       ends-failing explain_command contents left image read_failed h.taken h.split (inr has) 2 ended.ReadFault refl
       (inr (inr refl)) (inr (inr (refl, (h.stands, has)))) (λ e. failed refl) (record { how = inl refl })
-  course-no_drive (drives.BadLine line) h failed =
+  course-no_drive (ended.BadDrive line) h failed =
       ends-refused explain_command contents left image read_failed (ended.BadDrive line) (by_end (BadAt line) h.0)
       not_3 (λ e. h.1)
-  course-no_drive drives.TooLong h failed =
+  course-no_drive ended.EndlessDrive h failed =
       ends-refused explain_command contents left image read_failed ended.EndlessDrive (by_end Endless h.0) not_3
       (λ e. h.1)
-  course-no_drive drives.NoMemory h failed =
+  course-no_drive ended.NoMemory h failed =
       ends-lacking explain_command contents left image read_failed h.taken h.split (inr has)
+  course-no_drive why h failed = absurd h
 
 -- ---- reading the words in turn
 
@@ -132,14 +132,14 @@ module _ {E : Type 0} {F : FileGhosts E} (image : List ℕ) {files first : E} wh
 
         module _ {V : Type 0} {third : E} where
           -- the drive wasn't read
-          pub no_drive : (fault : DriveFault) → ReadsWord F {T = V} 2 second third (Err (ended_for_drive fault))
-              → (F.tells → IsNoDrive (F.rest second 2) (F.rest third 2) fault)
-              → Makes F explain_command image files third [] (ended_for_drive fault)
-          no_drive fault drive why = record {
+          pub no_drive : (why : Ended) → ReadsWord F {T = V} 2 second third (Err why)
+              → (F.tells → IsNoDrive (F.rest second 2) (F.rest third 2) why)
+              → Makes F explain_command image files third [] why
+          no_drive why drive none = record {
             comes = λ tells.
-                course-no_drive (F.rest files) (F.rest third) image _ (has tells) fault
-                (subst (λ (x : List ℕ). IsNoDrive x (F.rest third 2) fault) drive_is (why tells))
-                (λ e. rose_behind _ _ _ (goes-params.counts 2) (drive.read_fault (ap Err (ap ended_for_drive e))));
+                course-no_drive (F.rest files) (F.rest third) image _ (has tells) why
+                (subst (λ (x : List ℕ). IsNoDrive x (F.rest third 2) why) drive_is (none tells))
+                (λ e. rose_behind _ _ _ (goes-params.counts 2) (drive.read_fault (ap Err e)));
             follows = stops-with 2 [] goes-params drive (omega arith) (inr (inr refl)) comes-drive refl;
             not_board = λ e. drive.not_board (ap Err e);
           }

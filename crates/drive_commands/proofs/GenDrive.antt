@@ -6,13 +6,13 @@ use Rattle.{slot_store.proofs.Laws.{body_found}, drive_text.specs.{Drive.{bad_at
 use Rattle.interval_clock.specs.Offsets.{EachPlace, IsInRangeAt, IsOffsetList, RisesAt}
 use Rattle.{meter_store.specs.Sealing.{totals_found}, meter_model.specs.Setting.{IsSealOf}}
 use Rattle.{meter_states.specs.Setting.{IsTariffOf}, meter_run.specs.Supply.{drop_steps, is_supplied}}
-use Rattle.call_ends.{specs.Ending.{EndsUnprinted}, proofs.Laws.{course-bad_tariff, course-no_memory}}
-use Rattle.{call_ends.specs.Making.{EndsWithText}, drive_commands.specs.Generate.{state_after}}
-use Rattle.drive_commands.specs.Common.{Answer, Answered, Durable, Event, Found, HasState, IsBoundedByDrive}
-use Rattle.drive_commands.specs.Common.{IsSettingOf, IsTablesOf, Refusal, Rose, Seal, Single, SlotFault, TableParts}
-use Rattle.drive_commands.specs.Common.{TextFault, Tree, Whole, bad_tariff, drive_end, ended_for, events_in}
-use Rattle.drive_commands.specs.Common.{first_second, found_at, generated, tables_of, tariff_in}
+use Rattle.call_ends.{specs.Making.{EndsWithText}, proofs.Laws.{course-bad_tariff, course-no_memory}}
+use Rattle.drive_commands.specs.Common.{Answer, Answered, Durable, EndsUnprinted, Event, Found, HasState}
+use Rattle.drive_commands.specs.Common.{IsBoundedByDrive, IsSettingOf, IsTablesOf, Refusal, Rose, Seal, Single}
+use Rattle.drive_commands.specs.Common.{SlotFault, TableParts, TextFault, Tree, Whole, bad_tariff, drive_end, ended_for}
+use Rattle.drive_commands.specs.Common.{events_in, first_second, found_at, generated, tables_of, tariff_in}
 use Rattle.drive_commands.specs.Generate.{city_text, gen_answer, gen_command, generated_setting, generated_text}
+use Rattle.drive_commands.specs.Generate.{state_after}
 use Rattle.totals_record.specs.Reading as totals
 use Rattle.meter_store.specs.Stored as states
 use Rattle.call_ends.specs.declared.ending.Ended.TheVariants as ended

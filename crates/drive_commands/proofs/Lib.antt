@@ -1,7 +1,5 @@
--- how the command `bench` comes to its last line
+-- why the command `bench` judges nothing, what it judges, and how it comes to its last line
 mod BenchEnds
--- what a verification goes by, and why there is nothing
-mod BenchTerms
 -- what the command `explain` answers
 mod ExplainAnswers
 -- the text of hirings that are explained, line by line and hiring by hiring
@@ -12,7 +10,7 @@ mod ExplainedLines
 mod GenDrive
 -- the test whether a held trip fits the tables decides it
 mod HeldTripFits
--- readings that are judged by a drive, and why nothing is judged
+-- readings that were read, and why others weren't
 mod JudgedReadings
 -- the lemmas that the crates above cite
 pub mod Laws
@@ -30,3 +28,5 @@ mod RunStarts
 mod TariffDrives
 -- a drive that is read whole into memory, part by part
 mod WholeDrives
+-- what a part of a command read of a word, whatever it gives of it
+mod WordsRead

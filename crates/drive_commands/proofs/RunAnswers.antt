@@ -1,19 +1,20 @@
 -- The command `run`: what it answers, and what it leaves of the store.
-use Rattle.std.proofs.Common.{[], ℕ, ◌++◌, ◌∙◌, ◌∷◌, ◌≡◌, ◌≢◌, Err, List, Ok, Result, Some, ap, get_or, inl, inr}
-use Rattle.std.proofs.{Common.{length, refl, subst, sym}, lemmas.List.{append-nil, ext_get_or}}
+use Rattle.std.proofs.Common.{[], ℕ, ◌++◌, ◌+◌, ◌∙◌, ◌∷◌, ◌≡◌, ◌≢◌, ◌≤◌, Err, List, Ok, Result, Some, ap, arith, get_or}
+use Rattle.std.proofs.{Common.{inl, inr, length, refl, subst, sym}, lemmas.List.{append-nil, ext_get_or}}
 use Rattle.outside.specs.{Runs.{IsAtRest as NothingFlies}, declared.files.Files.{Ghosts as FileGhosts}}
 use Rattle.{outside.proofs.Laws.{begins_not}, slot_store.specs.Syncs.{IsAsHeld, ReadsOnly}}
 use Rattle.{slot_store.proofs.Laws.{from_sync_as}, totals_record.specs.declared.change.Change.{Change}}
-use Rattle.{totals_record.proofs.Laws.{changes_add_up}, call_ends.{specs.Stream.{TakesBytes}, proofs.Laws.{bytes-read}}}
+use Rattle.{totals_record.proofs.Laws.{changes_add_up}, call_ends.specs.{Ending.{EndsOnDevices}, Stream.{TakesBytes}}}
 use Rattle.meter_run.{specs.Points.{HasEntries}, proofs.Laws.{keeps_read, receipts_have_their_entries-run}}
-use Rattle.{store_commands.proofs.Laws.{none}, drive_commands.specs.RunSteps.{HasNotBegun, RunReachesLine}}
-use Rattle.drive_commands.specs.Common.{Answer, Answered, Begins, BoardFailed, CommitsInTurn, Deed, Drive, Ended}
-use Rattle.drive_commands.specs.Common.{EndsOnDevices, Ghosts, HasState, IsCutOfDeeds, IsRefusal, LeavesFromSync}
-use Rattle.drive_commands.specs.Common.{NoMemory, Prints, ReadFailed, Rose, SameBut, after_deeds, changes_of, line_in}
-use Rattle.drive_commands.specs.Common.{line_of, opening_in, refused_as, status_of, texts}
+use Rattle.call_ends.{specs.Reads.{Follows}, proofs.Laws.{bytes-read}}
+use Rattle.store_commands.{specs.Opened.{IsBarred, OnlyOpens}, proofs.Laws.{none, owed-refused}}
+use Rattle.drive_commands.specs.Common.{Answer, Answered, Begins, BoardFailed, Carries, CommitsInTurn, Deed, Drive}
+use Rattle.drive_commands.specs.Common.{Ended, Ghosts, HasState, IsCutOfDeeds, IsRefusal, LeavesFromSync, NoMemory}
+use Rattle.drive_commands.specs.Common.{Prints, ReadFailed, Rose, SameBut, after_deeds, changes_of, line_in, line_of}
+use Rattle.drive_commands.{specs.Common.{opening_in, refused_as, status_of, texts}, proofs.RunStarts.{start_stands}}
 use Rattle.drive_commands.specs.Run.{IsCutOfCourse, IsCutOfRun, IsOfTotals, StandsAfterRun, Start, bytes_in, deeds_in}
 use Rattle.drive_commands.specs.Run.{run_answer, run_command, setting_in, shown_in_run, start_at, start_of, tables_in}
-use Rattle.drive_commands.proofs.{RunCuts.{first_cut, last_cut}, RunStarts.{start_stands}}
+use Rattle.drive_commands.{specs.RunSteps.{HasNotBegun, RunReachesLine}, proofs.RunCuts.{first_cut, last_cut}}
 use Rattle.call_ends.specs.declared.ending.Ended.TheVariants as ended
 
 -- over no bytes a run does nothing
@@ -160,12 +161,14 @@ module _ {E D L : Type 0} {N : ℕ} (F : FileGhosts E) (B : Ghosts D N L) (files
         ok_err s w (Ok x) a b = cc
         ok_err s w (Err x) a b = cc
 
+    -- what is owed of an end before the drive, if nothing was written
+    abbrev pub IsOwed : Ended → Type 0
+    IsOwed why = (fails → why ≡ ended.BoardFault) → (why ≢ ended.BoardFault → NothingFlies B new)
+        → (why ≢ ended.BoardFault → B.image new ≡ B.image old) → RunReachesLine F B files files' old new why
+
     -- the run didn't begin
     pub course-not_begun : (why : Ended) → HasNotBegun (B.image old) (F.rest files 1)
-        (Rose (F.faults files 1) (F.faults files' 1)) (Rose (B.faults old) (B.faults new)) why
-        → (fails → why ≡ ended.BoardFault) → (why ≢ ended.BoardFault → NothingFlies B new)
-        → (why ≢ ended.BoardFault → B.image new ≡ B.image old)
-        → RunReachesLine F B files files' old new why
+        (Rose (F.faults files 1) (F.faults files' 1)) why → IsOwed why
     course-not_begun ended.ReadFault h board settled same =
         quiet ended.ReadFault
         (record {
@@ -197,18 +200,59 @@ module _ {E D L : Type 0} {N : ℕ} (F : FileGhosts E) (B : Ghosts D N L) (files
           });
         })
         (λ s e. refl) (λ good. refl) fails (λ f. let is = board f in absurd cc) reads synced settled same
-    course-not_begun ended.BoardFault h board settled same =
+    course-not_begun ended.BoardFault h board settled same = absurd h
+    course-not_begun why h board settled same =
+        let good : why ≢ ended.BoardFault = λ e. absurd cc in
+        refused why h.0 h.1 good board (settled good) (same good)
+
+    -- the board failed
+    course-board : Rose (B.faults old) (B.faults new) → IsOwed ended.BoardFault
+    course-board cause board settled same =
         quiet ended.BoardFault
         (record {
           course = BoardFailed [];
-          may = record { failed = h; takes = taken };
+          may = record { failed = cause; takes = taken };
           stands = inr (record {
             ended_is = refl;
-            failed = h;
+            failed = cause;
             started = λ t. begins_not (B.printed old) (B.printed new) _ reads.text;
           });
         })
         (λ s e. refl) (λ good. absurd (good refl)) fails (λ f. refl) reads synced settled same
-    course-not_begun why h board settled same =
-        let good : why ≢ ended.BoardFault = λ e. absurd cc in
-        refused why h.0 h.1 good board (settled good) (same good)
+
+    -- the store bars the run
+    pub course-barred : (why : Ended) → IsBarred why → (why ≢ ended.BoardFault → start_at F B files old ≡ Err why)
+        → (why ≡ ended.BoardFault → Rose (B.faults old) (B.faults new)) → IsOwed why
+    course-barred =
+        owed-refused (λ (w : Ended). start_at F B files old ≡ Err w) IsOwed (Rose (B.faults old) (B.faults new))
+        (course-not_begun ended.NotSealed) (λ slot. course-not_begun (ended.BadSlot slot))
+        (λ first second. course-not_begun (ended.SameNumber first second)) course-board
+
+-- a run ended before its drive, behind the opening of the store
+pub carries-stopped : {E D L : Type 0} {N : ℕ} (F : FileGhosts E) (B : Ghosts D N L) {files files' : E} {old new : D}
+    {before now : ℕ} {why : Ended} {fails : Type 0} → (fails → why ≡ ended.BoardFault)
+    → (why ≡ ended.BoardFault → fails) → OnlyOpens B fails old new → F.rest files' 2 ≡ F.rest files 2
+    → Follows F run_command (B.image old) B.tells_image files files' why → now ≤ before + 22
+    → (F.tells × B.tells_image → RunReachesLine F B files files' old new why)
+    → Carries F B run_command files files' old new before now why
+carries-stopped F B {old = old} {new = new} board back opens untouched reads few runs = record {
+  ends = λ known. (runs known).comes;
+  steps = λ later le. record {
+    taken = [];
+    few = omega arith;
+    split = λ tells. record { bytes = sym untouched };
+    bound = omega (arith, le, few);
+  };
+  read_fault = reads.read_fault;
+  board_fault = λ e. opens.cause (back e);
+  others = reads.others;
+  unread = λ known. reads.unread known.1;
+  count = λ good. opens.count (λ f. good (board f));
+  counts = λ read good. reads.counts read;
+  kept = λ shut. absurd (shut tt);
+  unwritten = λ not. bytes-read B old new opens.reads;
+  same = λ not good. opens.same (λ f. good (board f));
+  fails = λ status w. inr (inr (inr refl));
+  at_rest = λ known told opened good. opens.settled told (λ f. good (board f));
+  looks = λ looks. absurd (looks.unwritten 8 (inr (inr (inr refl))));
+}

@@ -1,11 +1,11 @@
 -- The command `run`: how it begins.
-use Rattle.{std.specs.{Cmp.Lexicographic.{pointwise}, Option.{ForSome}, Prelude.{nat_eq}}, sha2.specs.Sha256.{sha256}}
-use Rattle.std.proofs.Common.{ℕ, ◌<◌, ◌∙◌, ◌≡◌, ◌≢◌, ◌≤◌, Bool, Err, List, Ok, Result, ap, arith, drop, false}
-use Rattle.std.proofs.{Common.{if◌then◌else◌, length, refl, subst, sym, take, true}, lemmas.Bool.{le-ltb, lt-ltb}}
-use Rattle.{outside.proofs.Laws.{same_slice}, slot_store.specs.declared.found.Found.TheVariants.{Blank, Latest}}
-use Rattle.slot_store.{specs.Scan.{IsAnswer, verdict_on}, proofs.Laws.{answer_is, at_stands}}
+use Rattle.std.{specs.Cmp.Lexicographic.{pointwise}, proofs.Common.{length, refl, subst, sym, take, true}}
+use Rattle.std.{specs.{Option.{ForSome}, Prelude.{nat_eq}}, proofs.lemmas.Bool.{le-ltb, lt-ltb}}
+use Rattle.std.proofs.Common.{ℕ, ◌<◌, ◌∙◌, ◌≡◌, ◌≤◌, Bool, Err, List, Ok, Result, ap, arith, drop, false, if◌then◌else◌}
+use Rattle.{sha2.specs.Sha256.{sha256}, outside.proofs.Laws.{same_slice}, slot_store.specs.Scan.{IsAnswer, verdict_on}}
+use Rattle.slot_store.{specs.declared.found.Found.TheVariants.{Blank, Latest}, proofs.Laws.{answer_is, at_stands}}
 use Rattle.{slot_store.specs.declared.pair.Place.{Place}, call_ends.proofs.Laws.{refusal_by}}
-use Rattle.store_commands.{specs.{Opened.{IsBarred}, Opening.{opening_by}}, proofs.Laws.{owed-refused}}
+use Rattle.store_commands.specs.Opening.{opening_by}
 use Rattle.drive_commands.specs.Common.{Durable, Ended, Fits, Found, IsSealedIn, Opening, Refusal, SameBut, Seal}
 use Rattle.drive_commands.specs.Common.{SlotFault, StoreFault, TextFault, TooLong, Tree, ended_for, found_at}
 use Rattle.drive_commands.specs.{Common.{opening_in, store_of, tables_of, tariff_in}, Run.{start_with, tables_in}}
@@ -56,16 +56,6 @@ no_tables-as digest text read_failed more ended.NoMemory is h = tt
 no_tables-as digest text read_failed more (ended.BadTariff why) is h = h
 no_tables-as digest text read_failed more (ended.WrongTariff sealed own) is h = h
 no_tables-as digest text read_failed more why is h = absurd h
-
-pub text-not_board : (fault : TextFault) → ended_for fault ≢ ended.BoardFault
-text-not_board texts.ReadFault = λ e. absurd cc
-text-not_board (texts.Refused why) = λ e. absurd cc
-text-not_board texts.NoMemory = λ e. absurd cc
-
-pub text-read_fault : (fault : TextFault) → ended_for fault ≡ ended.ReadFault → fault ≡ texts.ReadFault
-text-read_fault texts.ReadFault e = refl
-text-read_fault (texts.Refused why) e = absurd cc
-text-read_fault texts.NoMemory e = absurd cc
 
 -- ---- the start
 
@@ -159,55 +149,39 @@ starts_again image tariff left s place d e same found fits =
 
 -- ---- the run doesn't begin
 
-module _ (image tariff : List ℕ) (read_failed board_failed : Type 0) where
-  -- the store bars the run
-  pub not_begun-barred : (why : Ended) → IsBarred why → (why ≢ ended.BoardFault → store_of (opening_in image) ≡ Err why)
-      → (why ≡ ended.BoardFault → board_failed)
-      → HasNotBegun image tariff read_failed board_failed why
-  not_begun-barred why barred store cause =
-      owed-refused (λ (w : Ended). start_of (opening_in image) tariff ≡ Err w)
-      (λ (w : Ended). HasNotBegun image tariff read_failed board_failed w) board_failed
-      (λ h. h) (λ slot h. h) (λ first second h. h) (λ f. f) why barred
-      (λ good. ap (λ (r : Result (Durable × Seal) Ended). start_over r tariff) (store good)) cause
+module _ (image tariff : List ℕ) (durable : Durable) (seal : Seal)
+    (e : store_of (opening_in image) ≡ Ok (durable, seal)) where
+  sealed_in : IsSealedIn image
+  sealed_in = record { store = (durable, seal); is = e }
 
-  module _ (store : Durable × Seal) (e : store_of (opening_in image) ≡ Ok store) where
-    sealed_in : IsSealedIn image
-    sealed_in = record { store = store; is = e }
+  pub start_from : (r : Result Tree Ended) → sealed_tariff seal.digest tariff ≡ r
+      → start_of (opening_in image) tariff ≡ start_with durable seal r
+  start_from r f =
+      ap (λ (r : Result (Durable × Seal) Ended). start_over r tariff) e ∙ ap (start_with durable seal) f
 
-    pub start_from : (r : Result Tree Ended) → sealed_tariff store.1.digest tariff ≡ r
-        → start_of (opening_in image) tariff ≡ start_with store.0 store.1 r
-    start_from r f =
-        ap (λ (r : Result (Durable × Seal) Ended). start_over r tariff) e ∙ ap (start_with store.0 store.1) f
+  pub not_begun-tables : (read_failed : Type 0) (why : Ended) → AreNoTables seal.digest tariff read_failed why
+      → HasNotBegun image tariff read_failed why
+  not_begun-tables read_failed ended.ReadFault h = (h, sealed_in)
+  not_begun-tables read_failed ended.NoMemory h = sealed_in
+  not_begun-tables read_failed (ended.BadTariff why) h = (
+    start_from (Err (ended.BadTariff why)) h,
+    refusal_by (ended.BadTariff why) refl refl refl,
+  )
+  not_begun-tables read_failed (ended.WrongTariff digest own) h = (
+    start_from (Err (ended.WrongTariff digest own)) h,
+    refusal_by (ended.WrongTariff digest own) refl refl refl,
+  )
+  not_begun-tables read_failed why h = absurd h
 
-    pub not_begun-tables : (why : Ended) → AreNoTables store.1.digest tariff read_failed why
-        → HasNotBegun image tariff read_failed board_failed why
-    not_begun-tables ended.ReadFault h = (h, sealed_in)
-    not_begun-tables ended.NoMemory h = sealed_in
-    not_begun-tables (ended.BadTariff why) h = (
-      start_from (Err (ended.BadTariff why)) h,
-      refusal_by (ended.BadTariff why) refl refl refl,
-    )
-    not_begun-tables (ended.WrongTariff digest own) h = (
-      start_from (Err (ended.WrongTariff digest own)) h,
-      refusal_by (ended.WrongTariff digest own) refl refl refl,
-    )
-    not_begun-tables why h = absurd h
-
-    -- by whether the held trip fits
-    fitted : (t : Tree) (fit : Bool) → does_hold_fit (tables_of t store.1.params.constant) store.0.hold ≡ fit
-        → start_with store.0 store.1 (Ok t)
-        ≡ (if fit then Ok (record { durable = store.0; seal = store.1; tree = t }) else Err ended.BadTrip)
-    fitted t fit is = rw is refl
-
-    pub not_begun-trip : (t : Tree) → sealed_tariff store.1.digest tariff ≡ Ok t
-        → does_hold_fit (tables_of t store.1.params.constant) store.0.hold ≡ false
-        → HasNotBegun image tariff read_failed board_failed ended.BadTrip
-    not_begun-trip t f none = (
-      start_from (Ok t) f ∙ fitted t false none,
-      refusal_by ended.BadTrip refl refl refl,
-    )
-
-    pub has_begun : (t : Tree) → sealed_tariff store.1.digest tariff ≡ Ok t
-        → does_hold_fit (tables_of t store.1.params.constant) store.0.hold ≡ true
-        → start_of (opening_in image) tariff ≡ Ok (record { durable = store.0; seal = store.1; tree = t })
-    has_begun t f fits = start_from (Ok t) f ∙ fitted t true fits
+-- by whether the held trip fits
+pub start_fitted : (tariff : List ℕ) (durable : Durable) (seal : Seal) (t : Tree) (fit : Bool)
+    → sealed_tariff seal.digest tariff ≡ Ok t
+    → does_hold_fit (tables_of t seal.params.constant) durable.hold ≡ fit
+    → start_with durable seal (sealed_tariff seal.digest tariff)
+    ≡ (if fit then Ok (record { durable = durable; seal = seal; tree = t }) else Err ended.BadTrip)
+start_fitted tariff durable seal t fit f is = ap (start_with durable seal) f ∙ by fit is
+  where
+    by : (fit : Bool) → does_hold_fit (tables_of t seal.params.constant) durable.hold ≡ fit
+        → start_with durable seal (Ok t)
+        ≡ (if fit then Ok (record { durable = durable; seal = seal; tree = t }) else Err ended.BadTrip)
+    by fit is = rw is refl

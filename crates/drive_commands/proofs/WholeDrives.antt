@@ -1,12 +1,15 @@
 -- A drive that is read whole into memory, part by part.
-use Rattle.std.proofs.Common.{[], ℕ, ◌++◌, ◌+◌, ◌<◌, ◌∙◌, ◌≡◌, IfSome, List, None, Option, Some, ap, append_assoc}
-use Rattle.std.proofs.Common.{arith, flat_map, length, length-append, refl, subst, sym}
+use Rattle.{std.specs.Prelude.{OnOk}, outside.specs.declared.files.Files.{Ghosts as FileGhosts}}
+use Rattle.std.proofs.Common.{[], ℕ, ◌++◌, ◌+◌, ◌<◌, ◌∙◌, ◌≡◌, ◌≢◌, Err, IfSome, List, None, Option, Result, Some, ap}
+use Rattle.std.proofs.Common.{append_assoc, arith, flat_map, length, length-append, refl, subst, sym}
+use Rattle.outside.{specs.Reading.{LeavesOthers}, proofs.Laws.{rose_behind}}
 use Rattle.drive_text.{specs.{Drive.{runs_after, runs_in}, Ending.{ReachesEnd, ShowsEnd}}, proofs.Laws.{runs_are_added}}
 use Rattle.meter_run.specs.Source.{EndsBy, GivesRuns, HasGiven, Progress, StopsBy}
-use Rattle.drive_commands.specs.{BenchSteps.{IsNoDrive, IsStopped, IsWholeDrive, fault_by}, Common.{run_events}}
-use Rattle.drive_commands.specs.Common.{BadAt, DriveFault, Endless, Run, Stop, StreamEnd, TellsEnd, Whole, drive_end}
+use Rattle.drive_commands.specs.BenchSteps.{IsNoDrive, IsStopped, IsWholeDrive, fault_by}
+use Rattle.drive_commands.specs.Common.{BadAt, Ended, Endless, ReadsWord, Rose, Run, Stop, StreamEnd, TellsEnd, Whole}
+use Rattle.drive_commands.specs.Common.{drive_end, run_events}
 use Rattle.meter_run.specs.declared.source.Stop.TheVariants as stops
-use Rattle.drive_commands.specs.declared.whole_drive.DriveFault.TheVariants as drives
+use Rattle.call_ends.specs.declared.ending.Ended.TheVariants as ended
 
 -- these bytes of the drive were given to the reader of lines, and these are their runs
 pub record IsSoFar (told : Type 0) (progress : Progress) (drive rest : List ℕ) (runs : List Run) : Type 0 where
@@ -15,7 +18,7 @@ pub record IsSoFar (told : Type 0) (progress : Progress) (drive rest : List ℕ)
   pub split : told → drive ≡ given ++ (progress.ahead ++ rest)
   pub runs_are : runs ≡ runs_in given
 
-same : (a b : DriveFault) → Some a ≡ Some b → a ≡ b
+same : (a b : Ended) → Some a ≡ Some b → a ≡ b
 same a b e = cc
 
 module _ (told : Type 0) (old : Progress) (drive rest rest' : List ℕ) (runs part : List Run)
@@ -65,7 +68,7 @@ module _ (told : Type 0) (old : Progress) (drive rest rest' : List ℕ) (runs pa
   -- memory ran out
   pub no_room : (new : Progress) (stop : Option Stop) → (stop ≡ None → GivesRuns told old new rest rest' s.given part)
       → ((x : Stop) → stop ≡ Some x → StopsBy told old rest rest' s.given part x) → told
-      → IsNoDrive drive rest' drives.NoMemory
+      → IsNoDrive drive rest' ended.NoMemory
   no_room new None more last t = taken_more new (more refl) t
   no_room new (Some stop) more last t = taken_last stop (last stop refl) t
 
@@ -94,19 +97,19 @@ module _ (told : Type 0) (old : Progress) (drive rest rest' : List ℕ) (runs pa
   whole_drive stops.TooLong none last t = absurd cc
   whole_drive stops.ReadFault none last t = absurd cc
 
-  pub no_drive : (stop : Stop) (fault : DriveFault) → fault_by stop ≡ Some fault
-      → StopsBy told old rest rest' s.given part stop → told → IsNoDrive drive rest' fault
-  no_drive stops.Whole fault some last t = absurd cc
-  no_drive (stops.BadLine line) fault some last t =
+  pub no_drive : (stop : Stop) (why : Ended) → fault_by stop ≡ Some why
+      → StopsBy told old rest rest' s.given part stop → told → IsNoDrive drive rest' why
+  no_drive stops.Whole why some last t = absurd cc
+  no_drive (stops.BadLine line) why some last t =
       let h : ReachesEnd drive (s.given ++ last.fed) rest' (BadAt line) = ends_by (stops.BadLine line) last t in
-      subst (λ (f : DriveFault). IsNoDrive drive rest' f) (same (drives.BadLine line) fault some)
+      subst (λ (f : Ended). IsNoDrive drive rest' f) (same (ended.BadDrive line) why some)
       (h.ends.end_is, tells (s.given ++ last.fed) (BadAt line) h)
-  no_drive stops.TooLong fault some last t =
+  no_drive stops.TooLong why some last t =
       let h : ReachesEnd drive (s.given ++ last.fed) rest' Endless = ends_by stops.TooLong last t in
-      subst (λ (f : DriveFault). IsNoDrive drive rest' f) (same drives.TooLong fault some)
+      subst (λ (f : Ended). IsNoDrive drive rest' f) (same ended.EndlessDrive why some)
       (h.ends.end_is, tells (s.given ++ last.fed) Endless h)
-  no_drive stops.ReadFault fault some last t =
-      subst (λ (f : DriveFault). IsNoDrive drive rest' f) (same drives.ReadFault fault some) (record {
+  no_drive stops.ReadFault why some last t =
+      subst (λ (f : Ended). IsNoDrive drive rest' f) (same ended.ReadFault why some) (record {
         taken = s.given ++ last.fed;
         split = record { bytes = s.split t ∙ (last.split t).bytes };
         stands = ends_by stops.ReadFault last t;
@@ -119,3 +122,20 @@ stop_at (Some y) P x is h = subst P (same_stop y x is) h
   where
     same_stop : (a b : Stop) → Some a ≡ Some b → a ≡ b
     same_stop a b e = cc
+
+-- a word was read, up to a part of its drive behind which no read failed, by the reading of that part
+pub reads_part : {E T : Type 0} {F : FileGhosts E} {word : ℕ} {files new : E} {failed : Type 0} (mid : E)
+    (result : Result T Ended)
+    → (((other : ℕ) → other ≢ word → F.rest mid other ≡ F.rest files other)
+    × ((other : ℕ) → F.faults mid other ≡ F.faults files other)) → LeavesOthers F.rest word mid new
+    → (¬ failed → (other : ℕ) → F.faults new other ≡ F.faults mid other)
+    → (failed → Rose (F.faults mid word) (F.faults new word)) → (result ≡ Err ended.ReadFault → failed)
+    → (failed → result ≡ Err ended.ReadFault) → (F.tells → OnOk result (F.rest new word ≡ []))
+    → result ≢ Err ended.BoardFault → ReadsWord F word files new result
+reads_part mid result so_far others counts rose read fails whole not_board = record {
+  ended = whole;
+  read_fault = λ e. rose_behind _ _ _ (so_far.1 _) (rose (read e));
+  others = λ other differs. others other differs ∙ so_far.0 other differs;
+  counts = λ good other. counts (λ f. good (fails f)) other ∙ so_far.1 other;
+  not_board = not_board;
+}

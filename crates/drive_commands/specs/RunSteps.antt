@@ -1,13 +1,13 @@
 -- For proofs: what the command `run` has before its last line is printed. Run says what a run is.
-use Rattle.std.specs.Prelude.{ℕ, ◌≡◌, ◌≢◌, Err, List, Ok}
+use Rattle.std.specs.{Option.{ForSome}, Prelude.{ℕ, ◌≡◌, ◌≢◌, Err, List, Ok}}
 use Rattle.outside.specs.{Runs.{IsAtRest, MayHold}, declared.files.Files.{Ghosts as FileGhosts}}
-use Rattle.call_ends.specs.Unwritten.{LeavesUnwritten}
+use Rattle.call_ends.specs.{Ending.{EndsOnDevices}, Unwritten.{LeavesUnwritten}}
 use Rattle.call_ends.specs.declared.ending.Ended.TheVariants.{BadTariff, NoMemory, WrongTariff}
-use Rattle.drive_commands.specs.Common.{Begins, BoardFault, CommitsInTurn, Ended, EndsOnDevices, Ghosts, IsRefusal}
-use Rattle.drive_commands.specs.Common.{IsSealedIn, IsTablesOf, LeavesFromSync, OpensWith, ReadFault, Seal, TableParts}
-use Rattle.drive_commands.specs.Common.{Tree, changes_of, line_of, opening_in, status_of, tables_of, tariff_in}
+use Rattle.drive_commands.specs.Common.{Begins, BoardFault, CommitsInTurn, Durable, Ended, Fits, Ghosts, IsRefusal}
+use Rattle.drive_commands.specs.Common.{IsSealedIn, IsTablesOf, LeavesFromSync, ReadFault, Seal, TableParts, Tree}
+use Rattle.drive_commands.specs.Common.{changes_of, line_of, opening_in, status_of, tables_of, tariff_in}
 use Rattle.drive_commands.specs.Run.{IsCutOfCourse, StandsAfterRun, Start, bytes_in, deeds_in, run_command}
-use Rattle.drive_commands.specs.Run.{sealed_tariff, start_at, start_of, tables_in}
+use Rattle.drive_commands.specs.Run.{sealed_tariff, start_at, start_of, start_with}
 
 -- ---- the tables of the sealed tariff
 
@@ -34,23 +34,22 @@ AreNoTables digest text read_failed why = ⊥
 
 -- ---- how a run begins
 
-module _ {D L : Type 0} {N : ℕ} (B : Ghosts D N L) where
-  -- a run has begun over the opening image if it has a start with this seal and these tables, and the board may open
-  -- with its durable state
-  pub record HasBegun (image tariff : List ℕ) (board : D) (seal : Seal) (tables : TableParts) : Type 0 where
-    pub start : Start
-    pub is : start_of (opening_in image) tariff ≡ Ok start
-    pub seal_is : seal ≡ start.seal
-    pub tables_are : tables ≡ tables_in start
-    pub compiled : IsTablesOf start.tree tables
-    pub opens : OpensWith B tables board start.durable
+-- a run has begun with a durable state, a seal and these tables if they are those of its start, and the held trip fits
+-- them
+pub record HasBegun (durable : Durable) (seal : Seal) (tariff : List ℕ) (tables : TableParts) : Type 0 where
+  pub tree : Tree
+  pub starts : start_with durable seal (sealed_tariff seal.digest tariff)
+      ≡ Ok (record { durable = durable; seal = seal; tree = tree })
+  pub compiled : IsTablesOf tree tables
+  pub value : tables ≡ tables_of tree seal.params.constant
+  pub fits : ForSome durable.hold (Fits tables)
 
--- a run hasn't begun if a read failed, memory ran out, the board failed, or it is refused
-abbrev pub HasNotBegun : (image tariff : List ℕ) → (read_failed board_failed : Type 0) → Ended → Type 0
-HasNotBegun image tariff read_failed board_failed ReadFault = read_failed × IsSealedIn image
-HasNotBegun image tariff read_failed board_failed NoMemory = IsSealedIn image
-HasNotBegun image tariff read_failed board_failed BoardFault = board_failed
-HasNotBegun image tariff read_failed board_failed why = (start_of (opening_in image) tariff ≡ Err why) × IsRefusal why
+-- a run hasn't begun over a sealed store if a read failed, memory ran out, or it is refused
+abbrev pub HasNotBegun : (image tariff : List ℕ) → (read_failed : Type 0) → Ended → Type 0
+HasNotBegun image tariff read_failed ReadFault = read_failed × IsSealedIn image
+HasNotBegun image tariff read_failed NoMemory = IsSealedIn image
+HasNotBegun image tariff read_failed BoardFault = ⊥
+HasNotBegun image tariff read_failed why = (start_of (opening_in image) tariff ≡ Err why) × IsRefusal why
 
 -- ---- what it leaves
 

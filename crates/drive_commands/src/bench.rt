@@ -1,13 +1,12 @@
 //! The command `bench`.
-ghost use Rattle.std.specs.Prelude.{◌≡◌};
-ghost use Rattle.drive_commands.specs.{Bench.{bench_command}, Common.{Carries}, DriveEnds.{ended_with}};
+ghost use Rattle.drive_commands.specs.{Bench.{bench_command}, Common.{Carries}};
 
-use crate::bench_terms::open_terms;
-use crate::judgement::judge_drive;
-use call_ends::{Ended, print_text};
+use crate::judgement::judgement;
+use call_ends::{Ended, print_made};
 use outside::{Board, Files, STORE_SIZE};
 use std::alloc::Global;
 use std::sync::ledger::Ledger;
+use store_commands::open_sealed;
 use taxi_units::Steps;
 
 /// Scans the store, reads the sealed tariff from word 1, the drive from word 2 and the readings from word 3, and prints
@@ -21,23 +20,9 @@ pub fn bench<F: Files, B: Board<STORE_SIZE, L>, L: Ledger>(
     ensures { Carries F.Files B.Printer bench_command files.old files.new board.old board.new
         steps.old steps.new result }
 {
-    let terms = match open_terms(alloc, files, board, steps) {
-        Ok(terms) => terms,
+    let store = match open_sealed(board, steps) {
+        Ok(store) => store,
         Err(why) => return why,
     };
-    let judgement = match judge_drive(alloc, &terms, files) {
-        Ok(judgement) => judgement,
-        Err(why) => return why,
-    };
-    match print_text(judgement.text.as_slice(), board, steps) {
-        Ok(()) => ended(judgement.pass),
-        Err(_) => Ended::BoardFault,
-    }
-}
-
-/// How the command ended that printed its report.
-fn ended(pass: bool) -> Ended
-    ensures { result ≡ ended_with pass }
-{
-    if pass { Ended::Done } else { Ended::NotPassed }
+    print_made(judgement(alloc, &store.1, files), board, steps)
 }

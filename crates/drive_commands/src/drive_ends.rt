@@ -1,22 +1,9 @@
 //! How a command ends by its drive.
 ghost use Rattle.std.specs.Prelude.{◌≡◌};
-ghost use Rattle.drive_commands.specs.{BenchSteps.{ended_for_drive}, DriveEnds.{ended_by}};
+ghost use Rattle.drive_commands.specs.DriveEnds.{ended_by};
 
-use crate::whole_drive::DriveFault;
 use call_ends::Ended;
 use meter_run::RunFault;
-
-/// How a command ended that couldn't read its drive.
-pub fn refused_drive(fault: DriveFault) -> Ended
-    ensures { result ≡ ended_for_drive fault }
-{
-    match fault {
-        DriveFault::ReadFault => Ended::ReadFault,
-        DriveFault::BadLine(line) => Ended::BadDrive(line),
-        DriveFault::TooLong => Ended::EndlessDrive,
-        DriveFault::NoMemory => Ended::NoMemory,
-    }
-}
 
 /// How a command ended that ran its drive.
 pub fn ended_of(ran: Result<(), RunFault>) -> Ended

@@ -4,7 +4,6 @@ ghost use Rattle.{verify_bench.specs.Settings.{setting_under}, call_ends.specs.M
 ghost use Rattle.drive_commands.specs.Common.{Carries, IsRunInRange, explanations_of, run_events};
 ghost use Rattle.drive_commands.specs.{Explain.{explain_command}, ExplainedText.{explanations_text}};
 
-use crate::drive_ends::refused_drive;
 use crate::explained_text::text_of_explained;
 use crate::whole_drive::read_drive;
 use call_ends::{Ended, Made, print_made, read_tariff, refused_by};
@@ -45,10 +44,7 @@ fn explanation<F: Files>(alloc: Global, files: &mut F) -> Result<Made, Ended>
         Ok(params) => params,
         Err(fault) => return Err(refused_params(fault)),
     };
-    let runs = match read_drive(alloc, files, 2) {
-        Ok(runs) => runs,
-        Err(fault) => return Err(refused_drive(fault)),
-    };
+    let runs = read_drive(alloc, files, 2)?;
     match text_of_runs(alloc, &checked, &params, runs.as_slice()) {
         Ok(text) => Ok(Made {
             text,

@@ -1,17 +1,18 @@
 //! Judges readings by a drive.
-ghost use Rattle.std.specs.Prelude.{[], ℕ, ◌≡◌, ◌≢◌, All, Err, IfOk, Ok, OnOk, flat_map};
-ghost use Rattle.{store_commands.specs.ReadInTurn.{ReadsInTurn}, drive_commands.specs.BenchSteps.{terms_in}};
-ghost use Rattle.drive_commands.specs.{Bench.{ended_for_readings}, Common.{run_events}};
-ghost use Rattle.drive_commands.specs.BenchSteps.{IsJudged, IsNoReadings, IsNotJudged, judged_pass, judged_text};
-ghost use Rattle.drive_commands.specs.Common.{IsRunInRange, LeavesOthers, Rose, Whole, drive_end, readings_in};
+ghost use Rattle.std.specs.Prelude.{ℕ, ◌≡◌, All, IfErr, IfOk, List, Ok, flat_map};
+ghost use Rattle.{call_ends.specs.Making.{end_made, text_made}, drive_commands.specs.Bench.{ended_for_readings}};
+ghost use Rattle.drive_commands.specs.BenchSteps.{AreRefused, MakesUnder, judged_pass, judged_text};
+ghost use Rattle.drive_commands.specs.Common.{FailsOr, IsRunInRange, ReadsWord, readings_in, run_events, tree_of};
+ghost use Rattle.drive_commands.specs.DriveEnds.{ended_with};
 
-use crate::bench_terms::Terms;
-use crate::drive_ends::refused_drive;
+use crate::sealed_tariff::read_sealed;
 use crate::whole_drive::read_drive;
-use call_ends::Ended;
+use call_ends::{Ended, Made};
 use drive_text::Run;
 use outside::{Files, TextFault, read_text};
+use seal_record::Seal;
 use std::alloc::Global;
+use tariff_check::Checked;
 use taxi_units::NoMemory;
 use verify_bench::{
     Reading, ReadingsFault, cross_overs, do_all_pass, expect, read_readings, report,
@@ -20,37 +21,17 @@ use verify_bench::{
 /// How many bytes a text of readings has at most.
 const MOST: usize = 1_048_576;
 
-/// What is printed of a verification, and whether every row of its report passes.
-#[derive(Drop)]
-pub struct Judgement {
-    pub text: Vec<u8>,
-    pub pass: bool,
-}
-
-/// Reads the drive of word 2 and the readings of word 3, and judges them.
-pub fn judge_drive<F: Files>(
-    alloc: Global,
-    terms: &Terms,
-    files: &mut F,
-) -> Result<Judgement, Ended>
-    ensures judged { F.tells → IfOk result (λ judgement. IsJudged (terms_in terms.now)
-        (F.rest files.old 2) (F.rest files.new 2) (F.rest files.old 3) judgement.text.items judgement.pass) }
-    ensures ended { F.tells → OnOk result (F.rest files.new 3 ≡ []) }
-    ensures refused { (why : Ended) → F.tells → result ≡ Err why → IsNotJudged (terms_in terms.now)
-        (F.rest files.old 2) (F.rest files.new 2) (F.rest files.old 3)
-        (Rose (F.faults files.old 2) (F.faults files.new 2)) (Rose (F.faults files.old 3) (F.faults files.new 3)) why }
-    ensures not_board { result ≢ Err Ended.BoardFault }
-    ensures reads { ReadsInTurn F.Files 2 3 (drive_end (F.rest files.old 2) ≡ Whole) (result ≡ Err Ended.ReadFault)
-        files.old files.new }
+/// Reads the sealed tariff of word 1, the drive of word 2 and the readings of word 3, and gives what is printed of
+/// them.
+pub fn judgement<F: Files>(alloc: Global, seal: &Seal, files: &mut F) -> Result<Made, Ended>
+    ensures { (image : List ℕ) → MakesUnder F.Files image seal.now files.old files.new
+        (text_made result) (end_made result) }
 {
-    let runs = match read_drive(alloc, files, 2) {
-        Ok(runs) => runs,
-        Err(fault) => return Err(refused_drive(fault)),
-    };
-    let decimals = terms.checked.decimals();
-    let readings = readings_of_word(alloc, files, 3, decimals)?;
-    match judge_readings(alloc, terms, runs.as_slice(), readings.as_slice()) {
-        Ok(judgement) => Ok(judgement),
+    let checked = read_sealed(alloc, files, &seal.digest)?;
+    let runs = read_drive(alloc, files, 2)?;
+    let readings = readings_of_word(alloc, files, 3, checked.decimals())?;
+    match judge_readings(alloc, &checked, seal, runs.as_slice(), readings.as_slice()) {
+        Ok(made) => Ok(made),
         Err(_) => Err(Ended::NoMemory),
     }
 }
@@ -75,13 +56,8 @@ fn readings_of_word<F: Files>(
 ) -> Result<Vec<Reading>, Ended>
     ensures found { F.tells → IfOk result (λ readings.
         readings_in decimals (F.rest files.old word) ≡ Ok readings.items) }
-    ensures ended { F.tells → OnOk result (F.rest files.new word ≡ []) }
-    ensures refused { (why : Ended) → F.tells → result ≡ Err why → IsNoReadings decimals (F.rest files.old word)
-        (Rose (F.faults files.old word) (F.faults files.new word)) why }
-    ensures read_fault { result ≡ Err Ended.ReadFault → Rose (F.faults files.old word) (F.faults files.new word) }
-    ensures not_board { result ≢ Err Ended.BoardFault }
-    ensures others { LeavesOthers F.rest word files.old files.new }
-    ensures counts { result ≢ Err Ended.ReadFault → (other : ℕ) → F.faults files.new other ≡ F.faults files.old other }
+    ensures refused { F.tells → IfErr result (FailsOr (AreRefused decimals (F.rest files.old word))) }
+    ensures reads { ReadsWord F.Files word files.old files.new result }
 {
     match read_text(alloc, files, word, MOST) {
         Ok(text) => match read_readings(alloc, text.as_slice(), decimals) {
@@ -94,28 +70,38 @@ fn readings_of_word<F: Files>(
     }
 }
 
-/// Judges readings by the runs of a drive.
+/// Judges readings by the runs of a drive, under a tariff and a seal.
 fn judge_readings(
     alloc: Global,
-    terms: &Terms,
+    checked: &Checked,
+    seal: &Seal,
     runs: &[Run],
     readings: &[Reading],
-) -> Result<Judgement, NoMemory>
+) -> Result<Made, NoMemory>
     requires { All IsRunInRange runs.now }
-    ensures text { IfOk result (λ judgement. judgement.text.items
-        ≡ judged_text (terms_in terms.now) (flat_map run_events runs.now) readings.now) }
-    ensures pass { IfOk result (λ judgement. judgement.pass
-        ≡ judged_pass (terms_in terms.now) (flat_map run_events runs.now) readings.now) }
+    ensures text { IfOk result (λ made. made.text.items
+        ≡ judged_text (record { seal = seal.now; tree = tree_of checked.now }) (flat_map run_events runs.now)
+        readings.now) }
+    ensures ended { IfOk result (λ made. made.ended
+        ≡ ended_with (judged_pass (record { seal = seal.now; tree = tree_of checked.now })
+        (flat_map run_events runs.now) readings.now)) }
 {
-    let (step, _) = terms.checked.step();
-    let decimals = terms.checked.decimals();
-    let expected = expect(alloc, &terms.checked, &terms.seal, runs)?;
-    let mut text = cross_overs(alloc, &terms.checked)?;
+    let (step, _) = checked.step();
+    let decimals = checked.decimals();
+    let expected = expect(alloc, checked, seal, runs)?;
+    let mut text = cross_overs(alloc, checked)?;
     let rows = report(alloc, expected.as_slice(), readings, step, decimals)?;
     match text.extend_from_slice(rows.as_slice()) {
         Ok(()) => {}
         Err(_) => return Err(NoMemory),
     }
-    let pass = do_all_pass(expected.as_slice(), readings, step);
-    Ok(Judgement { text, pass })
+    let ended = judged(do_all_pass(expected.as_slice(), readings, step));
+    Ok(Made { text, ended })
+}
+
+/// How the command ended that printed its report.
+fn judged(pass: bool) -> Ended
+    ensures { result ≡ ended_with pass }
+{
+    if pass { Ended::Done } else { Ended::NotPassed }
 }

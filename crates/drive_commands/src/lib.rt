@@ -2,7 +2,6 @@
 #![tactic(auto)]
 
 pub mod bench;
-mod bench_terms;
 mod drive_ends;
 pub mod explain;
 mod explained_lines;

@@ -1,8 +1,7 @@
 //! The command `run`.
-ghost use Rattle.{std.specs.Option.{ForSome}, seal_record.specs.Ranges.{IsSeal}};
-ghost use Rattle.std.specs.Prelude.{[], ℕ, ◌+◌, ◌↔◌, ◌≡◌, ◌≢◌, ◌≤◌, Err, IfErr, IfOk, IsErrOf, IsTrue, OnOk};
-ghost use Rattle.{store_commands.specs.Opened.{OnlyOpens}, drive_commands.specs.Run.{does_hold_fit, run_command}};
-ghost use Rattle.drive_commands.specs.Common.{Carries, Fits, IsSealedIn, LeavesOthers, Rose};
+ghost use Rattle.std.specs.{Option.{ForSome}, Prelude.{ℕ, ◌+◌, ◌↔◌, ◌≡◌, ◌≤◌, Err, IfErr, IfOk, IsTrue, List, Ok}};
+ghost use Rattle.drive_commands.specs.Common.{Carries, Fits, ReadsWord, Rose, opening_in, store_of};
+ghost use Rattle.drive_commands.specs.Run.{does_hold_fit, run_command};
 ghost use Rattle.drive_commands.specs.RunSteps.{AreNoTables, AreSealedTables, HasBegun, HasNotBegun, RunReachesLine};
 
 use crate::drive_ends::ended_of;
@@ -17,26 +16,15 @@ use std::sync::ledger::Ledger;
 use store_commands::open_sealed;
 use tariff_compile::{Tables, compile};
 use taxi_units::Steps;
-use totals_record::Trip;
-
-/// What a run goes by: the seal of its store, and the tables of its tariff.
-#[derive(Drop)]
-pub struct Begun {
-    pub seal: Seal,
-    pub tables: Tables,
-}
+use totals_record::{Durable, Trip};
 
 /// Reads the sealed tariff from word 1, and makes its tables. It asks for the length of the text before its digest.
 fn read_tables<F: Files>(alloc: Global, files: &mut F, seal: &Seal) -> Result<Tables, Ended>
     ensures found { F.tells → IfOk result (AreSealedTables seal.now (F.rest files.old 1)) }
     ensures constant { IfOk result (λ tables. tables.constant ≡ seal.now.params.constant) }
-    ensures ended { F.tells → OnOk result (F.rest files.new 1 ≡ []) }
     ensures refused { (why : Ended) → F.tells → result ≡ Err why
         → AreNoTables seal.now.digest (F.rest files.old 1) (Rose (F.faults files.old 1) (F.faults files.new 1)) why }
-    ensures read_fault { result ≡ Err Ended.ReadFault → Rose (F.faults files.old 1) (F.faults files.new 1) }
-    ensures not_board { result ≢ Err Ended.BoardFault }
-    ensures others { LeavesOthers F.rest 1 files.old files.new }
-    ensures counts { result ≢ Err Ended.ReadFault → (other : ℕ) → F.faults files.new other ≡ F.faults files.old other }
+    ensures reads { ReadsWord F.Files 1 files.old files.new result }
 {
     let checked = read_sealed(alloc, files, &seal.digest)?;
     match compile(alloc, &checked, seal.params.constant) {
@@ -57,34 +45,26 @@ fn hold_fits<L: Ledger>(hold: &Option<Trip>, tables: &Tables, steps: &mut Steps<
     }
 }
 
-/// Scans the store, reads the tariff of word 1, and asks whether the held trip fits it. It writes and prints nothing.
-fn begin<F: Files, B: Board<STORE_SIZE, L>, L: Ledger>(
+/// Reads the tariff of word 1, makes its tables, and asks whether the held trip fits them.
+fn begin<F: Files, L: Ledger>(
     alloc: Global,
     files: &mut F,
-    board: &mut B,
+    durable: &Durable,
+    seal: &Seal,
     steps: &mut Steps<L>,
-) -> Result<Begun, Ended>
-    ensures begun { F.tells → B.tells_image → IfOk result (λ begun.
-        HasBegun B.Printer (B.image board.old) (F.rest files.old 1) board.new begun.seal begun.tables) }
-    ensures seal { IfOk result (λ begun. IsSeal begun.seal) }
-    ensures constant { IfOk result (λ begun. begun.tables.constant ≡ begun.seal.params.constant) }
-    ensures ended { F.tells → OnOk result (F.rest files.new 1 ≡ []) }
-    ensures refused { F.tells → B.tells_image → IfErr result (HasNotBegun (B.image board.old) (F.rest files.old 1)
-        (Rose (F.faults files.old 1) (F.faults files.new 1)) (Rose (B.faults board.old) (B.faults board.new))) }
-    ensures opens { OnlyOpens B.Printer (IsErrOf result Ended.BoardFault) board.old board.new }
-    ensures unread { B.tells_image → (other : ℕ) → ¬ ((other ≡ 1) × IsSealedIn (B.image board.old))
-        → F.rest files.new other ≡ F.rest files.old other }
-    ensures read_fault { result ≡ Err Ended.ReadFault → Rose (F.faults files.old 1) (F.faults files.new 1) }
-    ensures others { LeavesOthers F.rest 1 files.old files.new }
-    ensures counts { result ≢ Err Ended.ReadFault → (other : ℕ) → F.faults files.new other ≡ F.faults files.old other }
-    ensures steps { steps.new ≤ steps.old + 22 }
+) -> Result<Tables, Ended>
+    ensures begun { F.tells → IfOk result (HasBegun durable.now seal.now (F.rest files.old 1)) }
+    ensures constant { IfOk result (λ tables. tables.constant ≡ seal.now.params.constant) }
+    ensures refused { (image : List ℕ) → F.tells → store_of (opening_in image) ≡ Ok (durable.now, seal.now)
+        → IfErr result (HasNotBegun image (F.rest files.old 1) (Rose (F.faults files.old 1) (F.faults files.new 1))) }
+    ensures reads { ReadsWord F.Files 1 files.old files.new result }
+    ensures steps { steps.new ≤ steps.old + 16 }
 {
-    let (durable, seal) = open_sealed(board, steps)?;
-    let tables = read_tables(alloc, files, &seal)?;
+    let tables = read_tables(alloc, files, seal)?;
     if !hold_fits(&durable.hold, &tables, steps) {
         return Err(Ended::BadTrip);
     }
-    Ok(Begun { seal, tables })
+    Ok(tables)
 }
 
 /// Scans the store, reads the sealed tariff from word 1, and carries out the drive of word 2 on the store.
@@ -99,10 +79,14 @@ pub fn run<F: Files, B: Board<STORE_SIZE, L>, L: Ledger>(
     ensures runs { F.tells → B.tells_image
         → RunReachesLine F.Files B.Printer files.old files.new board.old board.new result }
 {
-    let begun = match begin(alloc, files, board, steps) {
-        Ok(begun) => begun,
+    let store = match open_sealed(board, steps) {
+        Ok(store) => store,
         Err(why) => return why,
     };
-    let ran = run_events(&begun.tables, &begun.seal, files, 2, board, steps);
+    let tables = match begin(alloc, files, &store.0, &store.1, steps) {
+        Ok(tables) => tables,
+        Err(why) => return why,
+    };
+    let ran = run_events(&tables, &store.1, files, 2, board, steps);
     ended_of(ran)
 }

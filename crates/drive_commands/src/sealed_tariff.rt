@@ -1,7 +1,7 @@
 //! Reads the tariff that was sealed.
-ghost use Rattle.{std.specs.Cmp.Lexicographic.{pointwise}, drive_commands.specs.RunSteps.{AreNoTables, IsNoTables}};
-ghost use Rattle.std.specs.Prelude.{[], ℕ, ◌≡◌, ◌≢◌, ◌≤◌, Err, IfOk, Ok, OnOk, length, nat_eq};
-ghost use Rattle.drive_commands.specs.{Common.{LeavesOthers, Rose, tariff_in, tree_of}, Run.{sealed_tariff}};
+ghost use Rattle.std.specs.{Cmp.Lexicographic.{pointwise}, Prelude.{◌≡◌, ◌≤◌, Err, IfOk, Ok, length, nat_eq}};
+ghost use Rattle.drive_commands.specs.{Common.{ReadsWord, Rose, tariff_in, tree_of}, Run.{sealed_tariff}};
+ghost use Rattle.drive_commands.specs.RunSteps.{AreNoTables, IsNoTables};
 
 use call_ends::{Ended, refused_by, tariff_of_text, text_of_word};
 use outside::Files;
@@ -49,13 +49,9 @@ pub fn read_sealed<F: Files>(
 ) -> Result<Checked, Ended>
     ensures found { F.tells
         → IfOk result (λ checked. sealed_tariff digest.now (F.rest files.old 1) ≡ Ok (tree_of checked)) }
-    ensures ended { F.tells → OnOk result (F.rest files.new 1 ≡ []) }
     ensures refused { (why : Ended) → F.tells → result ≡ Err why
         → AreNoTables digest.now (F.rest files.old 1) (Rose (F.faults files.old 1) (F.faults files.new 1)) why }
-    ensures read_fault { result ≡ Err Ended.ReadFault → Rose (F.faults files.old 1) (F.faults files.new 1) }
-    ensures not_board { result ≢ Err Ended.BoardFault }
-    ensures others { LeavesOthers F.rest 1 files.old files.new }
-    ensures counts { result ≢ Err Ended.ReadFault → (other : ℕ) → F.faults files.new other ≡ F.faults files.old other }
+    ensures reads { ReadsWord F.Files 1 files.old files.new result }
 {
     let text = match text_of_word(alloc, files, 1) {
         Ok(text) => text,

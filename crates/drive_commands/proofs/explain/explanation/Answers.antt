@@ -1,9 +1,8 @@
-use Rattle.std.proofs.Common.{◌∙◌, All, Err, ap, refl, subst, sym}
+use Rattle.std.proofs.{Common.{◌∙◌, All, Err, ap, refl, subst, sym}, lemmas.Result.{err_from_is_err_and}}
 use Rattle.call_ends.proofs.Laws.{not_board-text, read_fault-text, reads-bad, reads-ok}
 use Rattle.store_commands.{specs.StoreEnds.{ended_for_params}, proofs.Laws.{not_board-params, read_fault-params}}
-use Rattle.drive_commands.specs.{BenchSteps.{ended_for_drive}, Common.{IsRunInRange, ended_for, tree_of}}
+use Rattle.drive_commands.specs.Common.{IsRunInRange, ended_for, tree_of}
 use Rattle.drive_commands.proofs.ExplainAnswers.{explained, no_drive, no_params, no_tariff, no_text}
-use Rattle.drive_commands.proofs.JudgedReadings.{not_board-drive, read_fault-drive}
 use Rattle.drive_commands.proofs.explain.explanation.Goals as goal
 
 pub returns-in-Err : goal.returns-in-Err
@@ -21,40 +20,36 @@ returns-in-Err-read_parameters g c = λ image.
     (reads-bad s.read_fault s.others s.counts ended_for_params c.in-Err-read_parameters.is (read_fault-params fault)
     refl (not_board-params fault)) (λ tells why e. s.refused why tells (c.in-Err-read_parameters.is ∙ ap Err e)))
 
-pub returns-in-Err-read_drive : goal.returns-in-Err-read_drive
-returns-in-Err-read_drive g c = λ image.
-    let f = c.read_tariff.ensures in let s = c.read_parameters.ensures in let d = c.read_drive.ensures in
-    let fault = c.in-Err-read_drive.fault in
-    rw c.refused_drive.ensures (no_drive image (tree_of c.in-Ok.checked)
+pub returns-in_err-runs : goal.returns-in_err-runs
+returns-in_err-runs g c = λ image.
+    let f = c.read_tariff.ensures in let s = c.read_parameters.ensures in
+    let p = err_from_is_err_and c.from_residual.result c.from_residual.ensures.1 in
+    rw (p.1, p.2) (no_drive image (tree_of c.in-Ok.checked)
     (reads-ok f.read_fault f.others f.counts c.in-Ok.ensures.ended c.in-Ok.is) c.in-Ok.ensures.found
     c.in-Ok-read_parameters.params
     (reads-ok s.read_fault s.others s.counts c.in-Ok-read_parameters.ensures.ended c.in-Ok-read_parameters.is)
-    c.in-Ok-read_parameters.ensures.found fault
-    (reads-bad d.read_fault d.others d.counts ended_for_drive c.in-Err-read_drive.is (read_fault-drive fault) refl
-    (not_board-drive fault)) c.in-Err-read_drive.ensures.refused)
+    c.in-Ok-read_parameters.ensures.found c.in_err-runs.field-0.0 (rw c.in_err-runs.was at c.read_drive.ensures.reads)
+    c.in_err-runs.ensures.refused)
 
 pub text_of_runs-requires : goal.text_of_runs-requires
-text_of_runs-requires g c = subst (All IsRunInRange) (sym c.as_slice.ensures.value) c.in-Ok-read_drive.ensures.range
+text_of_runs-requires g c = subst (All IsRunInRange) (sym c.as_slice.ensures.value) c.in_ok-runs.ensures.range
 
 pub returns : goal.returns
 returns g c = λ image.
-    let f = c.read_tariff.ensures in let s = c.read_parameters.ensures in let d = c.read_drive.ensures in
+    let f = c.read_tariff.ensures in let s = c.read_parameters.ensures in
     no_text image (tree_of c.in-Ok.checked)
     (reads-ok f.read_fault f.others f.counts c.in-Ok.ensures.ended c.in-Ok.is) c.in-Ok.ensures.found
     c.in-Ok-read_parameters.params
     (reads-ok s.read_fault s.others s.counts c.in-Ok-read_parameters.ensures.ended c.in-Ok-read_parameters.is)
-    c.in-Ok-read_parameters.ensures.found
-    (reads-ok d.read_fault d.others d.counts (λ tells. (c.in-Ok-read_drive.ensures.whole tells).none_left)
-    c.in-Ok-read_drive.is)
+    c.in-Ok-read_parameters.ensures.found (rw c.in_ok-runs.was at c.read_drive.ensures.reads)
 
 pub returns-in-Ok-text_of_runs : goal.returns-in-Ok-text_of_runs
 returns-in-Ok-text_of_runs g c = λ image.
-    let f = c.read_tariff.ensures in let s = c.read_parameters.ensures in let d = c.read_drive.ensures in
+    let f = c.read_tariff.ensures in let s = c.read_parameters.ensures in
     explained image (tree_of c.in-Ok.checked)
     (reads-ok f.read_fault f.others f.counts c.in-Ok.ensures.ended c.in-Ok.is) c.in-Ok.ensures.found
     c.in-Ok-read_parameters.params
     (reads-ok s.read_fault s.others s.counts c.in-Ok-read_parameters.ensures.ended c.in-Ok-read_parameters.is)
-    c.in-Ok-read_parameters.ensures.found
-    (reads-ok d.read_fault d.others d.counts (λ tells. (c.in-Ok-read_drive.ensures.whole tells).none_left)
-    c.in-Ok-read_drive.is) c.in-Ok-read_drive.runs.items c.in-Ok-text_of_runs.text.items
-    c.in-Ok-read_drive.ensures.whole (rw c.as_slice.ensures.value at c.in-Ok-text_of_runs.ensures)
+    c.in-Ok-read_parameters.ensures.found (rw c.in_ok-runs.was at c.read_drive.ensures.reads) c.in_ok-runs.runs.items
+    c.in-Ok-text_of_runs.text.items c.in_ok-runs.ensures.whole
+    (rw c.as_slice.ensures.value at c.in-Ok-text_of_runs.ensures)

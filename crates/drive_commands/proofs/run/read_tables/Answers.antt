@@ -1,5 +1,6 @@
-use Rattle.{std.proofs.Common.{ap, refl}, call_ends.proofs.Laws.{ends_apart, no_fault, same_fault}}
-use Rattle.drive_commands.specs.Common.{TableParts, tree_of}
+use Rattle.std.proofs.{Common.{ap, refl}, lemmas.Result.{err_from_is_err_and}}
+use Rattle.call_ends.proofs.Laws.{ends_apart, no_fault, same_fault}
+use Rattle.drive_commands.{specs.Common.{TableParts, tree_of}, proofs.WordsRead.{reads-behind, reads-err}}
 use Rattle.call_ends.specs.declared.ending.Ended.TheVariants as ended
 use Rattle.drive_commands.proofs.run.read_tables.Goals as goal
 
@@ -14,27 +15,19 @@ returns-in-Ok-clause-found g c = λ tells. record {
 pub returns-in-Ok-clause-constant : goal.returns-in-Ok-clause-constant
 returns-in-Ok-clause-constant g c = ap (λ (tables : TableParts). tables.constant) c.in-Ok.ensures.value
 
-pub returns-in-Ok-clause-read_fault : goal.returns-in-Ok-clause-read_fault
-returns-in-Ok-clause-read_fault g c = λ e. absurd (no_fault _ _ _ refl e)
+-- ---- what is read
 
-pub returns-in-Ok-clause-not_board : goal.returns-in-Ok-clause-not_board
-returns-in-Ok-clause-not_board g c = no_fault _ _ _ refl
+pub returns-in-Ok-clause-reads : goal.returns-in-Ok-clause-reads
+returns-in-Ok-clause-reads g c =
+    reads-behind (rw c.in_ok-checked.was at c.read_sealed.ensures.reads) _ (no_fault _ _ _ refl) (no_fault _ _ _ refl)
 
-pub returns-in-Ok-clause-counts : goal.returns-in-Ok-clause-counts
-returns-in-Ok-clause-counts g c = λ good.
-    c.read_sealed.ensures.counts
-    (no_fault c.read_sealed.result c.in_ok-checked.checked ended.ReadFault c.in_ok-checked.was)
+pub returns-clause-reads : goal.returns-clause-reads
+returns-clause-reads g c =
+    reads-behind (rw c.in_ok-checked.was at c.read_sealed.ensures.reads) _
+    (λ e. ends_apart ended.NoMemory ended.ReadFault refl (same_fault _ _ _ refl e))
+    (λ e. ends_apart ended.NoMemory ended.BoardFault refl (same_fault _ _ _ refl e))
 
--- ---- there was no memory for the tables
-
-pub returns-clause-read_fault : goal.returns-clause-read_fault
-returns-clause-read_fault g c =
-    λ e. absurd (ends_apart ended.NoMemory ended.ReadFault refl (same_fault _ _ _ refl e))
-
-pub returns-clause-not_board : goal.returns-clause-not_board
-returns-clause-not_board g c = λ e. ends_apart ended.NoMemory ended.BoardFault refl (same_fault _ _ _ refl e)
-
-pub returns-clause-counts : goal.returns-clause-counts
-returns-clause-counts g c = λ good.
-    c.read_sealed.ensures.counts
-    (no_fault c.read_sealed.result c.in_ok-checked.checked ended.ReadFault c.in_ok-checked.was)
+pub returns-in_err-checked-clause-reads : goal.returns-in_err-checked-clause-reads
+returns-in_err-checked-clause-reads g c =
+    let p = err_from_is_err_and c.from_residual.result c.from_residual.ensures.1 in
+    rw (p.1, p.2) (reads-err (rw c.in_err-checked.was at c.read_sealed.ensures.reads))

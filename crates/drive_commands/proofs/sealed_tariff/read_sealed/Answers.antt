@@ -1,7 +1,7 @@
 use Rattle.std.{specs.Prelude.{IfOk}, proofs.Common.{ℕ, ◌∙◌, ◌≡◌, Err, List, Ok, ap, refl, subst, sym}}
-use Rattle.{call_ends.proofs.Laws.{same_fault}, drive_commands.specs.Common.{Ended, Rose, tree_of}}
-use Rattle.drive_commands.specs.{Run.{sealed_tariff}, RunSteps.{AreNoTables}}
-use Rattle.drive_commands.proofs.RunStarts.{no_tables-as, no_tables-read, text-not_board, text-read_fault}
+use Rattle.call_ends.proofs.Laws.{not_board-text, read_fault-text, reads-bad, reads-ok, same_fault}
+use Rattle.drive_commands.specs.{Common.{Ended, Rose, ended_for, tree_of}, Run.{sealed_tariff}, RunSteps.{AreNoTables}}
+use Rattle.drive_commands.proofs.{RunStarts.{no_tables-as, no_tables-read}, WordsRead.{reads-behind, reads-err}}
 use Rattle.call_ends.specs.declared.ending.Ended.TheVariants as ended
 use Rattle.drive_commands.proofs.sealed_tariff.read_sealed.Goals as goal
 
@@ -16,14 +16,10 @@ returns-in-Err-clause-refused g c = λ why tells e.
     (λ f. c.text_of_word.ensures.read_fault (c.in-Err.is ∙ ap Err f))
     (λ w f. c.text_of_word.ensures.long w tells (c.in-Err.is ∙ ap Err f)))
 
-pub returns-in-Err-clause-read_fault : goal.returns-in-Err-clause-read_fault
-returns-in-Err-clause-read_fault g c = λ e.
-    c.text_of_word.ensures.read_fault
-    (c.in-Err.is ∙ ap Err (text-read_fault c.in-Err.fault (sym c.refused_by.ensures ∙ same_fault _ _ _ refl e)))
-
-pub returns-in-Err-clause-not_board : goal.returns-in-Err-clause-not_board
-returns-in-Err-clause-not_board g c =
-    λ e. text-not_board c.in-Err.fault (sym c.refused_by.ensures ∙ same_fault _ _ _ refl e)
+pub returns-in-Err-clause-reads : goal.returns-in-Err-clause-reads
+returns-in-Err-clause-reads g c = let f = c.text_of_word.ensures in let fault = c.in-Err.fault in
+    rw c.refused_by.ensures (reads-err (reads-bad f.read_fault f.others f.counts ended_for c.in-Err.is
+    (read_fault-text fault) refl (not_board-text fault)))
 
 pub returns-clause-found : goal.returns-clause-found
 returns-clause-found g c = λ tells.
@@ -39,8 +35,8 @@ returns-clause-refused g c = λ why tells e.
     (subst (λ (x : List ℕ). AreNoTables c.args.digest.now x ⊥ why)
     (c.as_slice.ensures.value ∙ c.in-Ok.ensures.text tells) (c.sealed_of_text.ensures.refused why e))
 
-pub returns-clause-read_fault : goal.returns-clause-read_fault
-returns-clause-read_fault g c = λ e. absurd (c.sealed_of_text.ensures.refused ended.ReadFault e)
-
-pub returns-clause-not_board : goal.returns-clause-not_board
-returns-clause-not_board g c = λ e. absurd (c.sealed_of_text.ensures.refused ended.BoardFault e)
+pub returns-clause-reads : goal.returns-clause-reads
+returns-clause-reads g c = let f = c.text_of_word.ensures in
+    reads-behind (reads-ok f.read_fault f.others f.counts c.in-Ok.ensures.ended c.in-Ok.is) c.sealed_of_text.result
+    (λ e. absurd (c.sealed_of_text.ensures.refused ended.ReadFault e))
+    (λ e. absurd (c.sealed_of_text.ensures.refused ended.BoardFault e))

@@ -1,10 +1,10 @@
 use Rattle.std.proofs.Common.{◌++◌, ◌∙◌, ◌≡◌, All, List, Some, ap, refl, subst, sym}
-use Rattle.{std.proofs.lemmas.List.Elements.{All-append}, outside.proofs.Laws.{rose_behind}}
-use Rattle.{call_ends.proofs.Laws.{not_true, same_fault}, drive_commands.specs.BenchSteps.{IsWholeDrive, fault_by}}
-use Rattle.drive_commands.specs.Common.{IsRunInRange, Run, Stop}
-use Rattle.drive_commands.proofs.WholeDrives.{IsSoFar, no_drive, no_room, smaller, so_far_more, stop_at, whole_drive}
+use Rattle.{std.proofs.lemmas.List.Elements.{All-append}, drive_commands.proofs.WholeDrives.{whole_drive}}
+use Rattle.call_ends.proofs.Laws.{ends_apart, no_fault, not_true, same_fault}
+use Rattle.drive_commands.specs.{BenchSteps.{IsWholeDrive, fault_by}, Common.{IsRunInRange, Run, Stop}}
+use Rattle.drive_commands.proofs.WholeDrives.{IsSoFar, no_drive, no_room, reads_part, smaller, so_far_more, stop_at}
 use Rattle.meter_run.specs.declared.source.Stop.TheVariants as stops
-use Rattle.drive_commands.specs.declared.whole_drive.DriveFault.TheVariants as drives
+use Rattle.call_ends.specs.declared.ending.Ended.TheVariants as ended
 use Rattle.drive_commands.proofs.whole_drive.read_drive.Goals as goal
 
 -- the runs that were there, and those of a part of the drive
@@ -44,10 +44,6 @@ returns-in-None-clause-range g c =
     subst (All IsRunInRange) (sym grown)
     (All-append IsRunInRange runs part c.loop-source.invariant.range c.next-stop.ensures.range)
 
-pub returns-in-None-clause-others : goal.returns-in-None-clause-others
-returns-in-None-clause-others g c =
-    λ other differs. c.next-stop.ensures.others other differs ∙ c.loop-source.invariant.others other differs
-
 pub returns-in-Some-fault_of-clause-refused : goal.returns-in-Some-fault_of-clause-refused
 returns-in-Some-fault_of-clause-refused g c = λ told.
     let rest = g.F.Files.rest in
@@ -55,25 +51,21 @@ returns-in-Some-fault_of-clause-refused g c = λ told.
     let s = c.loop-source.invariant.so_far in
     no_drive g.F.Files.tells c.loop-source.source (rest c.args.files.now word) (rest c.loop-source.files word)
     (rest c.next-stop.new.files word) c.loop-source.runs.items c.next-stop.new.runs.items s
-    c.in-Some.stop c.in-Some-fault_of.fault (sym c.fault_of.ensures ∙ c.in-Some-fault_of.is)
+    c.in-Some.stop c.in-Some-fault_of.why (sym c.fault_of.ensures ∙ c.in-Some-fault_of.is)
     (c.in-Some.ensures.stops s.given s.stands) told
 
--- a read is the fault of a drive only if the reading stopped by a failed read
-stopped_by : (stop : Stop) → fault_by stop ≡ Some drives.ReadFault → stop ≡ stops.ReadFault
+-- a read failed only if the reading stopped by that, and no board failed
+stopped_by : (stop : Stop) → fault_by stop ≡ Some ended.ReadFault → stop ≡ stops.ReadFault
 stopped_by stops.Whole e = absurd cc
 stopped_by (stops.BadLine line) e = absurd cc
 stopped_by stops.TooLong e = absurd cc
 stopped_by stops.ReadFault e = refl
 
-pub returns-in-Some-fault_of-clause-read_fault : goal.returns-in-Some-fault_of-clause-read_fault
-returns-in-Some-fault_of-clause-read_fault g c = λ e.
-    let fault = sym c.fault_of.ensures ∙ c.in-Some-fault_of.is ∙ ap Some (same_fault _ _ _ refl e) in
-    absurd (not_true c.has_failed.result c.if-has_failed.false c.has_failed.ensures
-    (c.in-Some.is ∙ ap Some (stopped_by c.in-Some.stop fault)))
-
-pub returns-in-Some-fault_of-clause-others : goal.returns-in-Some-fault_of-clause-others
-returns-in-Some-fault_of-clause-others g c =
-    λ other differs. c.next-stop.ensures.others other differs ∙ c.loop-source.invariant.others other differs
+not_board : (stop : Stop) → fault_by stop ≡ Some ended.BoardFault → ⊥
+not_board stops.Whole e = absurd cc
+not_board (stops.BadLine line) e = absurd cc
+not_board stops.TooLong e = absurd cc
+not_board stops.ReadFault e = absurd cc
 
 pub loop-source-smaller : goal.loop-source-smaller
 loop-source-smaller g c =
@@ -101,23 +93,13 @@ loop-source-preserved g c =
           c.next-stop.new.self (c.next-stop.ensures.more c.in_default.is s.given s.stands));
       range = subst (All IsRunInRange) (sym grown)
           (All-append IsRunInRange runs part c.loop-source.invariant.range c.next-stop.ensures.range);
-      others = λ other differs. c.next-stop.ensures.others other differs ∙ c.loop-source.invariant.others other differs;
-      counts = λ other. (c.next-stop.ensures.counts other).kept
-          (not_true c.has_failed.result c.if-has_failed.false c.has_failed.ensures)
-          ∙ c.loop-source.invariant.counts other;
+      read = (
+        λ other differs. c.next-stop.ensures.others other differs ∙ c.loop-source.invariant.read.0 other differs,
+        λ other. (c.next-stop.ensures.counts other).kept
+            (not_true c.has_failed.result c.if-has_failed.false c.has_failed.ensures)
+            ∙ c.loop-source.invariant.read.1 other,
+      );
     }
-
-pub returns-in-Err-clause-counts : goal.returns-in-Err-clause-counts
-returns-in-Err-clause-counts g c = λ good other. (c.next-stop.ensures.counts other).kept
-    (not_true c.has_failed.result c.if-has_failed.false c.has_failed.ensures) ∙ c.loop-source.invariant.counts other
-
-pub returns-in-None-clause-counts : goal.returns-in-None-clause-counts
-returns-in-None-clause-counts g c = λ good other. (c.next-stop.ensures.counts other).kept
-    (not_true c.has_failed.result c.if-has_failed.false c.has_failed.ensures) ∙ c.loop-source.invariant.counts other
-
-pub returns-in-Some-fault_of-clause-counts : goal.returns-in-Some-fault_of-clause-counts
-returns-in-Some-fault_of-clause-counts g c = λ good other. (c.next-stop.ensures.counts other).kept
-    (not_true c.has_failed.result c.if-has_failed.false c.has_failed.ensures) ∙ c.loop-source.invariant.counts other
 
 -- ---- a read failed
 
@@ -128,19 +110,41 @@ returns-then-has_failed-clause-refused g c = λ told.
     let s = c.loop-source.invariant.so_far in
     no_drive g.F.Files.tells c.loop-source.source (rest c.args.files.now word) (rest c.loop-source.files word)
     (rest c.next-stop.new.files word)
-    c.loop-source.runs.items c.next-stop.new.runs.items s stops.ReadFault drives.ReadFault refl
+    c.loop-source.runs.items c.next-stop.new.runs.items s stops.ReadFault ended.ReadFault refl
     (stop_at c.next-stop.result _ stops.ReadFault (c.has_failed.ensures.0 c.if-has_failed.true)
     c.next-stop.ensures.stops s.given s.stands) told
 
-pub returns-then-has_failed-clause-read_fault : goal.returns-then-has_failed-clause-read_fault
-returns-then-has_failed-clause-read_fault g c = λ e.
-    rose_behind (g.F.Files.faults c.args.files.now c.args.word) (g.F.Files.faults c.loop-source.files c.args.word)
-    (g.F.Files.faults c.next-stop.new.files c.args.word) (c.loop-source.invariant.counts c.args.word)
-    (c.next-stop.ensures.read_fault (c.has_failed.ensures.0 c.if-has_failed.true))
+-- ---- what is read
 
-pub returns-then-has_failed-clause-others : goal.returns-then-has_failed-clause-others
-returns-then-has_failed-clause-others g c = λ other differs. c.next-stop.ensures.others other differs
-    ∙ c.loop-source.invariant.others other differs
+pub returns-then-has_failed-clause-reads : goal.returns-then-has_failed-clause-reads
+returns-then-has_failed-clause-reads g c =
+    let failed = c.has_failed.ensures.0 c.if-has_failed.true in
+    reads_part c.loop-source.files _ c.loop-source.invariant.read c.next-stop.ensures.others
+    (λ not other. (c.next-stop.ensures.counts other).kept not) c.next-stop.ensures.read_fault (λ e. failed) (λ f. refl)
+    (λ tells. tt) (λ e. ends_apart ended.ReadFault ended.BoardFault refl (same_fault _ _ _ refl e))
 
-pub returns-then-has_failed-clause-counts : goal.returns-then-has_failed-clause-counts
-returns-then-has_failed-clause-counts g c = λ good. absurd (good refl)
+pub returns-in-Err-clause-reads : goal.returns-in-Err-clause-reads
+returns-in-Err-clause-reads g c =
+    let went = not_true c.has_failed.result c.if-has_failed.false c.has_failed.ensures in
+    reads_part c.loop-source.files _ c.loop-source.invariant.read c.next-stop.ensures.others
+    (λ not other. (c.next-stop.ensures.counts other).kept not) c.next-stop.ensures.read_fault
+    (λ e. absurd (ends_apart ended.NoMemory ended.ReadFault refl (same_fault _ _ _ refl e))) (λ f. absurd (went f))
+    (λ tells. tt) (λ e. ends_apart ended.NoMemory ended.BoardFault refl (same_fault _ _ _ refl e))
+
+pub returns-in-None-clause-reads : goal.returns-in-None-clause-reads
+returns-in-None-clause-reads g c =
+    let went = not_true c.has_failed.result c.if-has_failed.false c.has_failed.ensures in
+    reads_part c.loop-source.files _ c.loop-source.invariant.read c.next-stop.ensures.others
+    (λ not other. (c.next-stop.ensures.counts other).kept not) c.next-stop.ensures.read_fault
+    (λ e. absurd (no_fault _ _ _ refl e)) (λ f. absurd (went f))
+    (λ tells. (returns-in-None-clause-whole g c tells).none_left) (no_fault _ _ _ refl)
+
+pub returns-in-Some-fault_of-clause-reads : goal.returns-in-Some-fault_of-clause-reads
+returns-in-Some-fault_of-clause-reads g c =
+    let went = not_true c.has_failed.result c.if-has_failed.false c.has_failed.ensures in
+    let is = sym c.fault_of.ensures ∙ c.in-Some-fault_of.is in
+    reads_part c.loop-source.files _ c.loop-source.invariant.read c.next-stop.ensures.others
+    (λ not other. (c.next-stop.ensures.counts other).kept not) c.next-stop.ensures.read_fault
+    (λ e. c.in-Some.is
+    ∙ ap Some (stopped_by c.in-Some.stop (is ∙ ap Some (same_fault _ _ _ refl e)))) (λ f. absurd (went f))
+    (λ tells. tt) (λ e. not_board c.in-Some.stop (is ∙ ap Some (same_fault _ _ _ refl e)))

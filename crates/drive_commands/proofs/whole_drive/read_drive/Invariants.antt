@@ -8,8 +8,8 @@ invariant-loop-source g l = record {
   so_far : IsSoFar g.F.Files.tells l.source (g.F.Files.rest l.fn.files l.word)
       (g.F.Files.rest l.files l.word) l.runs.items;
   range : All IsRunInRange l.runs.items;
-  others : (other : ℕ) → other ≢ l.word → g.F.Files.rest l.files other ≡ g.F.Files.rest l.fn.files other;
-  counts : (other : ℕ) → g.F.Files.faults l.files other ≡ g.F.Files.faults l.fn.files other;
+  read : ((other : ℕ) → other ≢ l.word → g.F.Files.rest l.files other ≡ g.F.Files.rest l.fn.files other)
+      × ((other : ℕ) → g.F.Files.faults l.files other ≡ g.F.Files.faults l.fn.files other);
 }
 
 abbrev pub decreases-loop-source : goal.decreases-loop-source
