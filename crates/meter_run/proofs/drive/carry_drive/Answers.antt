@@ -69,13 +69,12 @@ returns-in-Some-clause-carried g c =
 
 pub loop-stop-smaller : goal.loop-stop-smaller
 loop-stop-smaller g c =
-    let r = c.args.by.now in
     let m = c.args.meter.now in
     let b = c.args.board.now in
     let s = c.loop-stop.invariant.up_to in
     fewer g.F.Files.tells c.loop-stop.source c.carry_piece.new.source (g.F.Files.rest c.loop-stop.files c.args.word)
     (g.F.Files.rest c.carry_piece.new.files c.args.word) s.taken
-    (λ (es : List Event). g.C.Carrier.carried r m b es c.carry_piece.new.meter c.carry_piece.new.board)
+    (λ (es : List Event). g.C.Carrier.carried c.args.by.now m b es c.carry_piece.new.meter c.carry_piece.new.board)
     c.args.steps.now c.carry_piece.new.steps s.through
     (c.carry_piece.ensures.goes_on (c.in_ok-stop.was ∙ ap Ok c.in_default.is) m b c.args.steps.now s.taken s.through
     s.done)

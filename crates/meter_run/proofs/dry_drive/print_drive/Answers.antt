@@ -46,37 +46,35 @@ returns-in-Ok-drop_at_end g c = record {
 }
 
 pub returns-in-Err-drop_at_end : goal.returns-in-Err-drop_at_end
-returns-in-Err-drop_at_end g c = record {
-  ends = λ tells.
-      let t = c.args.tables.now in
-      let k = c.args.seal.now in
-      let h = c.in-Ok.ensures.carried in
-      breaks _ _ _ _ _ _ _ h.taken h.few (h.split tells)
-      (end_begun g.B.Printer t k c.new-meter.result c.args.board.now c.new-meter.ensures.off c.new-meter.ensures.first
-      (events_in h.taken) c.carry_drive.new.meter c.carry_drive.new.board c.drop_at_end.new.board
-      h.carried c.drop_at_end.ensures.begun);
-  steps = drop_whole c.drop_at_end.new.steps c.in-Ok.ensures.carried c.drop_at_end.ensures.steps (λ done none.
-      c.drop_at_end.ensures.idle (dry_off g.B.Printer c.args.tables.now c.args.seal.now c.new-meter.result
-      c.args.board.now c.carry_drive.new.meter c.carry_drive.new.board (events_in c.in-Ok.ensures.carried.taken)
-      c.in-Ok.ensures.ready c.new-meter.ensures.off c.new-meter.ensures.first done none));
-  others = c.carry_drive.ensures.others;
-  read_fault = λ is. absurd (board_only is);
-  board_fault = rises_by refl (rose_behind _ _ _ (c.in-Ok.ensures.cause.kept true_is)
-      (c.in-Err-drop_at_end.ensures.cause.failed true_is));
-  counts = λ other. may_rise_more (λ failed. inr refl)
-      (c.carry_drive.ensures.counts other);
-  store = keeps_then g.B.Printer c.args.board.now c.carry_drive.new.board
-      c.drop_at_end.new.board c.in-Ok.ensures.carried.carried.store c.drop_at_end.ensures.store;
-}
+returns-in-Err-drop_at_end g c =
+    let h = c.in-Ok.ensures.carried in
+    record {
+      ends = λ tells. breaks _ _ _ _ _ _ _ h.taken h.few (h.split tells)
+          (end_begun g.B.Printer c.args.tables.now c.args.seal.now c.new-meter.result c.args.board.now
+          c.new-meter.ensures.off c.new-meter.ensures.first
+          (events_in h.taken) c.carry_drive.new.meter c.carry_drive.new.board c.drop_at_end.new.board
+          h.carried c.drop_at_end.ensures.begun);
+      steps = drop_whole c.drop_at_end.new.steps h c.drop_at_end.ensures.steps (λ done none.
+          c.drop_at_end.ensures.idle (dry_off g.B.Printer c.args.tables.now c.args.seal.now c.new-meter.result
+          c.args.board.now c.carry_drive.new.meter c.carry_drive.new.board (events_in h.taken)
+          c.in-Ok.ensures.ready c.new-meter.ensures.off c.new-meter.ensures.first done none));
+      others = c.carry_drive.ensures.others;
+      read_fault = λ is. absurd (board_only is);
+      board_fault = rises_by refl (rose_behind _ _ _ (c.in-Ok.ensures.cause.kept true_is)
+          (c.in-Err-drop_at_end.ensures.cause.failed true_is));
+      counts = λ other. may_rise_more (λ failed. inr refl)
+          (c.carry_drive.ensures.counts other);
+      store = keeps_then g.B.Printer c.args.board.now c.carry_drive.new.board
+          c.drop_at_end.new.board c.in-Ok.ensures.carried.carried.store c.drop_at_end.ensures.store;
+    }
 
 pub returns-in-Err : goal.returns-in-Err
 returns-in-Err g c = record {
   ends = λ tells.
-      let t = c.args.tables.now in
-      let k = c.args.seal.now in
       let h = c.in-Err.ensures.broke_off in
       breaks _ _ _ _ _ _ _ h.taken h.few (h.split tells)
-      (run_begun g.B.Printer t k c.new-meter.result c.args.board.now c.new-meter.ensures.off c.new-meter.ensures.first
+      (run_begun g.B.Printer c.args.tables.now c.args.seal.now c.new-meter.result c.args.board.now
+      c.new-meter.ensures.off c.new-meter.ensures.first
       (events_in h.taken) c.carry_drive.new.board h.broke_off);
   steps = broken_whole c.in-Err.ensures.broke_off;
   others = c.carry_drive.ensures.others;
