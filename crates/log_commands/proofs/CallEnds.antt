@@ -87,7 +87,8 @@ module _ {E D L : Type 0} {N : ℕ} (F : FileGhosts E) (B : Ghosts D N L) where
       → IsBroken (B.image log)) → (fault ≡ faults.LogFault → Rose (B.faults log) (B.faults log'))
       → LeavesFromSync B (fault ≡ faults.LogFault) log log' (IsAsHeld B log) → B.printed log' ≡ B.printed log
       → steps' ≤ steps + 258 → CallReachesLine F B call files files' log log' steps steps' (unread_end fault)
-  reaches_unread call files files' log log' steps steps' (faults.BadSlot slot) command bad broken failed synced text few =
+  reaches_unread call files files' log log' steps steps'
+      (faults.BadSlot slot) command bad broken failed synced text few =
       let lowest = bad slot refl in
       none_found (command, lowest) refl text
       (λ list stands. absurd (none_bad (B.image log) list slot lowest.small stands lowest.bad)) few

@@ -31,7 +31,8 @@ read_behind g c = reads_then g.G.Printer c.sync.new.self c.read_entries.new.log 
     c.read_entries.ensures.reads c.read_entries.ensures.image c.tail_of.ensures.reads
 
 pub returns-in_err-sync-clause-synced : goal.returns-in_err-sync-clause-synced
-returns-in_err-sync-clause-synced g c told = inl (search rules, sync_reads g (goal.at.returns-in_err-sync-clause-synced g c).After-sync)
+returns-in_err-sync-clause-synced g c told =
+    inl (search rules, sync_reads g (goal.at.returns-in_err-sync-clause-synced g c).After-sync)
 
 pub returns-in-Ok-clause-found : goal.returns-in-Ok-clause-found
 returns-in-Ok-clause-found g c told =
@@ -40,7 +41,8 @@ returns-in-Ok-clause-found g c told =
     let flying = log.in_flight c.tail_of.new.log in
     let same = c.read_entries.ensures.image ∙ c.in_ok-sync.ensures.same in
     let found = c.tail_of.ensures.found told
-    (λ place flies. c.in_ok-sync.ensures.durable told place (c.read_entries.ensures.reads.flight place flies)) (are g at told) in
+    (λ place flies. c.in_ok-sync.ensures.durable told place (c.read_entries.ensures.reads.flight place flies))
+    (are g at told) in
     subst (λ (i : List ℕ). IfOk c.tail_of.result (λ tail. (records : List Record) × StandsFor records i
     × IsTailOf (log.image c.tail_of.new.log) flying tail records)) same
     (subst (λ (i : List ℕ). IfOk c.tail_of.result (λ tail. (records : List Record) × StandsFor records
@@ -60,7 +62,7 @@ pub returns-in-Ok-clause-synced : goal.returns-in-Ok-clause-synced
 returns-in-Ok-clause-synced g c told =
     let at = goal.at.returns-in-Ok-clause-synced g c in
     let is = synced g at.In_ok-sync (sync_reads g at.After-sync) told in
-    inr (c.sync.new.self, is, held_on g.G.Printer _ _ _ is (read_behind g (goal.at.returns-in-Ok-clause-synced g c).After-tail_of).leaves)
+    inr (c.sync.new.self, is, held_on g.G.Printer _ _ _ is (read_behind g at.After-tail_of).leaves)
 
 pub returns-in-Err-clause-bad : goal.returns-in-Err-clause-bad
 returns-in-Err-clause-bad g c slot err told =
