@@ -2,22 +2,22 @@
 use Rattle.std.specs.Prelude.{◌⊎◌}
 use Rattle.std.proofs.Common.{[], ℕ, ◌++◌, ◌+◌, ◌∙◌, ◌≡◌, ◌≢◌, ◌≤◌, Bool, Err, List, Ok, Result, ap, ap₂, arith, false}
 use Rattle.std.proofs.{Common.{flat_map, inl, inr, length, refl, subst, sym, true, ⊎_elim}, lemmas.List.{append-nil}}
-use Rattle.{outside.specs.Runs.{LeavesNow}, call_ends.{specs.Course.{Course}, proofs.Laws.{refusal_by, stops-with}}}
+use Rattle.{outside.specs.Runs.{LeavesNow}, call_ends.specs.{Making.{Prints, answer_with, is_plain}, Reads.{GoesTo}}}
 use Rattle.outside.{specs.declared.files.Files.{Ghosts as FileGhosts}, proofs.Laws.{keeps_then, rose_behind}}
-use Rattle.{call_ends.specs.{Call.{MayTake}, Reads.{GoesTo}}, store_commands.specs.Opened.{IsBarred, OnlyOpens}}
-use Rattle.call_ends.specs.{Ending.{EndsByCourse, IsBrokenOff, IsDue}, Making.{Prints, answer_with}, Pieces.{pieces_of}}
+use Rattle.{call_ends.specs.{Ending.{EndsByCourse}, Pieces.{pieces_of}}, drive_commands.proofs.WordsRead.{reads-also}}
 use Rattle.call_ends.proofs.Laws.{board_not_read, bytes-kept, bytes-read, carries-looked, ends-failing, ends-lacking}
-use Rattle.call_ends.proofs.Laws.{ends-printed, ends-refused, fails_as, goes-all, goes-none, goes-on, no_fault}
+use Rattle.call_ends.proofs.Laws.{ends-printed, ends-refused, fails_as, few_pieces, goes-none, goes-on, makes-known}
+use Rattle.call_ends.proofs.Laws.{makes-lacking, makes-nothing, no_fault, refusal_by, stops-with}
+use Rattle.{store_commands.specs.Opened.{IsBarred, OnlyOpens}, drive_commands.proofs.TariffDrives.{begins_going}}
 use Rattle.store_commands.proofs.Laws.{course-board, course-refusal, owed-refused, unwritten-kept}
 use Rattle.drive_commands.specs.Bench.{HasTerms, Terms, bench_answer, bench_command, ended_for_readings, judged_ending}
 use Rattle.drive_commands.specs.Bench.{passing_status, readings_answer, terms_of, terms_over, terms_with}
-use Rattle.drive_commands.specs.BenchSteps.{AreRefused, IsNoDrive, IsSealedBy, IsWholeDrive, MakesUnder, judged_pass}
-use Rattle.drive_commands.{specs.{BenchSteps.{judged_text}, Common.{store_of}}, proofs.TariffDrives.{begins_going}}
-use Rattle.drive_commands.specs.Common.{Answer, Answered, BadAt, Begins, BoardFailed, Carries, Durable, Ended, Endless}
-use Rattle.drive_commands.specs.Common.{EndsUnprinted, Event, FailsOr, Ghosts, IsRefusal, IsSealedIn, IsSplit, NoMemory}
-use Rattle.drive_commands.specs.Common.{ReadFailed, Reading, ReadingsFault, ReadsWord, Rose, Run, Seal, StreamEnd, Tree}
-use Rattle.drive_commands.specs.Common.{Whole, drive_end, opening_in, readings_in, refused_as, run_events, status_of}
-use Rattle.drive_commands.specs.{DriveEnds.{ended_with}, Run.{sealed_tariff}, RunSteps.{AreNoTables}}
+use Rattle.drive_commands.specs.BenchSteps.{AreRefused, IsNoDrive, IsSealedBy, IsWholeDrive, judged_pass, judged_text}
+use Rattle.drive_commands.specs.Common.{Answer, BadAt, Begins, Carries, Durable, Ended, Endless, EndsUnprinted, Event}
+use Rattle.drive_commands.specs.Common.{FailsOr, Ghosts, IsRefusal, IsSealedIn, IsSplit, Makes, Reading, ReadingsFault}
+use Rattle.drive_commands.specs.Common.{ReadsWord, Run, Seal, StreamEnd, Tree, Whole, also_told, drive_end, opening_in}
+use Rattle.drive_commands.specs.{Common.{readings_in, refused_as, run_events, status_of, store_of}, Run.{sealed_tariff}}
+use Rattle.drive_commands.specs.{DriveEnds.{ended_with}, RunSteps.{AreNoTables}}
 use Rattle.call_ends.specs.declared.ending.Ended.TheVariants as ended
 use Rattle.verify_bench.specs.declared.reading.ReadingsFault.TheVariants as readings
 
@@ -27,17 +27,9 @@ answer-passing : (pass : Bool) (text : List ℕ)
 answer-passing true text = refl
 answer-passing false text = refl
 
-not_3-passing : (pass : Bool) → status_of (ended_with pass) ≢ 3
-not_3-passing true e = absurd cc
-not_3-passing false e = absurd cc
-
-not_read-passing : (pass : Bool) → ended_with pass ≢ ended.ReadFault
-not_read-passing true e = absurd cc
-not_read-passing false e = absurd cc
-
-not_board-passing : (pass : Bool) → ended_with pass ≢ ended.BoardFault
-not_board-passing true e = absurd cc
-not_board-passing false e = absurd cc
+plain-passing : (pass : Bool) → is_plain (status_of (ended_with pass)) ≡ true
+plain-passing true = refl
+plain-passing false = refl
 
 -- ---- why there is nothing
 
@@ -122,20 +114,11 @@ module _ {E : Type 0} (F : FileGhosts E) (image : List ℕ) (seal : Seal) where
   abbrev Told : Type 0
   Told = F.tells × IsSealedBy image seal
 
+  abbrev Known : FileGhosts E
+  Known = also_told F (IsSealedBy image seal)
+
   sealed_in : Told → IsSealedIn image
   sealed_in told = record { store = (told.1.durable, seal); is = told.1.is }
-
-  -- a word gives nothing
-  stops : {T : Type 0} {turn : ℕ} {files mid new : E} {why : Ended} (word : ℕ) (taken : List ℕ)
-      → GoesTo F bench_command image Told turn files mid → ReadsWord F {T = T} word mid new (Err why) → turn ≤ word
-      → bench_command.reads word → (Told → bench_command.comes_to (F.rest files) image word taken)
-      → (Told → EndsUnprinted bench_command (F.rest files) (F.rest new) image
-      (λ word. Rose (F.faults files word) (F.faults new word)) why) → MakesUnder F image seal files new [] why
-  stops word taken goes read order reads comes ends = record {
-    comes = ends;
-    follows = stops-with word taken goes read order reads comes refl;
-    not_board = λ e. read.not_board (ap Err e);
-  }
 
   comes-tariff : (files : E) → Told → bench_command.comes_to (F.rest files) image 1 []
   comes-tariff files told = inl (refl, (refl, sealed_in told))
@@ -149,13 +132,13 @@ module _ {E : Type 0} (F : FileGhosts E) (image : List ℕ) (seal : Seal) where
     -- the tariff wasn't read
     pub no_tariff : {T : Type 0} (failed : Type 0) (why : Ended) → ReadsWord F {T = T} 1 files first (Err why)
         → (F.tells → AreNoTables seal.digest (F.rest files 1) failed why)
-        → MakesUnder F image seal files first [] why
-    no_tariff failed why own none =
-        stops 1 [] (goes-none files) own (omega arith) (inl refl) (comes-tariff files)
-        (λ told. ends-failing bench_command (F.rest files) (F.rest first) image _ []
-        (record { bytes = sym (own.others 2 (λ e. absurd (omega (arith, e)))) }) (inl (refl, sealed_in told)) 1 why refl
-        (inl refl) (comes-tariff files told) (λ e. own.read_fault (ap Err e))
-        (fails-tariff (F.rest files) (F.rest first) image _ seal failed why (by_tariff files told) (none told.0)))
+        → Makes Known bench_command image files first [] why
+    no_tariff failed why own none = makes-nothing 1 [] (goes-none files) (reads-also _ own) refl (omega arith)
+        (inl refl) (comes-tariff files)
+        (λ told. record { bytes = sym (own.others 2 (λ e. absurd (omega (arith, e)))) }) refl
+        (λ told. inl (refl, sealed_in told))
+        (λ told. fails-tariff (F.rest files) (F.rest first) image _ seal failed why (by_tariff files told)
+        (none told.0))
 
     -- it was read
     module _ {T : Type 0} {x : T} (t : Tree) (own : ReadsWord F {T = T} 1 files first (Ok x))
@@ -169,9 +152,10 @@ module _ {E : Type 0} (F : FileGhosts E) (image : List ℕ) (seal : Seal) where
       has : Told → HasTerms image (F.rest files 1)
       has told = record { terms = terms; are = are told }
 
-      goes-tariff : GoesTo F bench_command image Told 1 files first
+      goes-tariff : GoesTo Known bench_command image Told 1 files first
       goes-tariff =
-          goes-on 1 [] (goes-none files) own (omega arith) (inl refl) (comes-tariff files) (no_fault _ _ _ refl)
+          goes-on 1 [] (goes-none files) (reads-also _ own) (omega arith) (inl refl) (comes-tariff files)
+          (no_fault _ _ _ refl)
 
       comes-drive : Told → bench_command.comes_to (F.rest files) image 2 []
       comes-drive told = inr (inl (refl, record { terms = terms; are = are told; going = begins_going }))
@@ -183,12 +167,15 @@ module _ {E : Type 0} (F : FileGhosts E) (image : List ℕ) (seal : Seal) where
         -- the drive wasn't read
         pub no_drive : (why : Ended) → ReadsWord F {T = U} 2 first second (Err why)
             → (F.tells → IsNoDrive (F.rest first 2) (F.rest second 2) why)
-            → MakesUnder F image seal files second [] why
-        no_drive why drive none =
-            stops 2 [] goes-tariff drive (omega arith) (inr (inl refl)) comes-drive
-            (λ told. course-no_drive (F.rest files) (F.rest second) image _ (has told) why
-            (subst (λ (d : List ℕ). IsNoDrive d (F.rest second 2) why) drive_is (none told.0))
-            (λ e. rose_behind _ _ _ (goes-tariff.counts 2) (drive.read_fault (ap Err e))))
+            → Makes Known bench_command image files second [] why
+        no_drive why drive none = record {
+          comes = λ told.
+              course-no_drive (F.rest files) (F.rest second) image _ (has told) why
+              (subst (λ (d : List ℕ). IsNoDrive d (F.rest second 2) why) drive_is (none told.0))
+              (λ e. rose_behind _ _ _ (goes-tariff.counts 2) (drive.read_fault (ap Err e)));
+          follows = stops-with 2 [] goes-tariff (reads-also _ drive) (omega arith) (inr (inl refl)) comes-drive refl;
+          not_board = λ e. drive.not_board (ap Err e);
+        }
 
         -- it was read
         module _ {y : U} (runs : List Run) (drive : ReadsWord F {T = U} 2 first second (Ok y))
@@ -196,8 +183,9 @@ module _ {E : Type 0} (F : FileGhosts E) (image : List ℕ) (seal : Seal) where
           whole : Told → IsWholeDrive (F.rest files 2) (F.rest second 2) runs
           whole told = subst (λ (d : List ℕ). IsWholeDrive d (F.rest second 2) runs) drive_is (was told.0)
 
-          goes-drive : GoesTo F bench_command image Told 2 files second
-          goes-drive = goes-on 2 [] goes-tariff drive (omega arith) (inr (inl refl)) comes-drive (no_fault _ _ _ refl)
+          goes-drive : GoesTo Known bench_command image Told 2 files second
+          goes-drive = goes-on 2 [] goes-tariff (reads-also _ drive) (omega arith) (inr (inl refl)) comes-drive
+              (no_fault _ _ _ refl)
 
           comes-readings : Told → bench_command.comes_to (F.rest files) image 3 (F.rest files 2)
           comes-readings told =
@@ -221,22 +209,19 @@ module _ {E : Type 0} (F : FileGhosts E) (image : List ℕ) (seal : Seal) where
             -- the readings weren't read
             pub no_readings : (why : Ended) → (mine : ReadsWord F {T = V} 3 second third (Err why))
                 → (F.tells → FailsOr (AreRefused t.decimals (F.rest second 3)) why)
-                → MakesUnder F image seal files third [] why
+                → Makes Known bench_command image files third [] why
             unfolding has
-            no_readings why mine none =
-                stops 3 (F.rest files 2) goes-drive mine (omega arith) (inr (inr refl)) comes-readings
-                (λ told. ends-failing bench_command (F.rest files) (F.rest third) image _ (F.rest files 2)
-                (taken mine told) (inr (has told)) 3 why refl (inr (inr refl)) (comes-readings told)
-                (λ e. rose_behind _ _ _ (goes-drive.counts 3) (mine.read_fault (ap Err e)))
-                (fails_as (λ h. refused-readings (F.rest files) (F.rest third) image _ (has told) why
+            no_readings why mine none = makes-nothing 3 (F.rest files 2) goes-drive (reads-also _ mine) refl
+                (omega arith) (inr (inr refl)) comes-readings (taken mine) refl (λ told. inr (has told))
+                (λ told. fails_as (λ h. refused-readings (F.rest files) (F.rest third) image _ (has told) why
                 (whole told).end_is (subst (λ (text : List ℕ). AreRefused t.decimals text why) text_is h))
-                (none told.0)))
+                (none told.0))
 
             -- they were read
             module _ {z : V} (mine : ReadsWord F {T = V} 3 second third (Ok z)) where
-              goes-readings : GoesTo F bench_command image Told 3 files third
-              goes-readings = goes-on 3 (F.rest files 2) goes-drive mine (omega arith) (inr (inr refl)) comes-readings
-                  (no_fault _ _ _ refl)
+              goes-readings : GoesTo Known bench_command image Told 3 files third
+              goes-readings = goes-on 3 (F.rest files 2) goes-drive (reads-also _ mine) (omega arith)
+                  (inr (inr refl)) comes-readings (no_fault _ _ _ refl)
 
               each_read : Told → (word : ℕ) → bench_command.reads word → F.rest third word ≡ []
               each_read told word (inl e) = ap (F.rest third) e ∙ (mine.others 1 (λ f. absurd (omega (arith, f)))
@@ -245,24 +230,21 @@ module _ {E : Type 0} (F : FileGhosts E) (image : List ℕ) (seal : Seal) where
               each_read told word (inr (inr e)) = ap (F.rest third) e ∙ mine.ended told.0
 
               -- there was no memory for the report
-              pub no_report : MakesUnder F image seal files third [] ended.NoMemory
-              no_report = record {
-                comes = λ told. ends-lacking bench_command (F.rest files) (F.rest third) image _ (F.rest files 2)
-                    (taken mine told) (inr (has told));
-                follows = goes-all goes-readings (λ e. absurd cc);
-                not_board = λ e. absurd cc;
-              }
+              pub no_report : Makes Known bench_command image files third [] ended.NoMemory
+              no_report = makes-lacking (F.rest files 2) goes-readings (taken mine) (λ told. inr (has told))
 
               -- the readings are judged
               pub judged : (found : List Reading) (text : List ℕ) (end : Ended)
                   → (F.tells → readings_in t.decimals (F.rest second 3) ≡ Ok found)
                   → text ≡ judged_text terms (flat_map run_events runs) found
                   → end ≡ ended_with (judged_pass terms (flat_map run_events runs) found)
-                  → MakesUnder F image seal files third text end
+                  → Makes Known bench_command image files third text end
               unfolding has
               judged found text end read text_so end_so =
                   let pass = judged_pass terms (flat_map run_events runs) found in
-                  let answer : Told → bench_command.answer (F.rest files) image ≡ answer_with text end = λ told.
+                  makes-known (λ status all. all) refl text end goes-readings
+                  (ap (λ (e : Ended). is_plain (status_of e)) end_so ∙ plain-passing pass)
+                  (λ told.
                   let read_here : readings_in t.decimals (F.rest files 3) ≡ Ok found =
                   subst (λ (xs : List ℕ). readings_in t.decimals xs ≡ Ok found) text_is (read told.0) in
                   by_readings (F.rest files) (F.rest third) image (λ word. ⊥) (has told) (Ok found)
@@ -272,26 +254,8 @@ module _ {E : Type 0} (F : FileGhosts E) (image : List ℕ) (seal : Seal) where
                     shown = judged_text terms events found;
                     line = [];
                   }) (sym (whole told).events)
-                  ∙ answer-passing pass _ ∙ ap₂ answer_with (sym text_so) (sym end_so) in
-                  record {
-                    comes = λ told.
-                        let status : (bench_command.answer (F.rest files) image).status ≡ status_of end =
-                        ap (λ (a : Answer). a.status) (answer told) in
-                        record {
-                          course = Answered;
-                          may = record {
-                            whole = λ all. each_read told;
-                            bad = λ e. absurd (not_3-passing pass (ap status_of (sym end_so) ∙ (sym status ∙ e)));
-                          };
-                          stands = inl (record {
-                            status_is = sym status;
-                            line_is = sym (ap (λ (a : Answer). a.line) (answer told));
-                            shown = ap (λ (a : Answer). a.shown) (answer told);
-                          });
-                        };
-                    follows = goes-all goes-readings (λ e. not_read-passing pass (sym end_so ∙ e));
-                    not_board = λ e. not_board-passing pass (sym end_so ∙ e);
-                  }
+                  ∙ answer-passing pass _ ∙ ap₂ answer_with (sym text_so) (sym end_so))
+                  (λ told final. each_read told)
 
 -- ---- on the board
 
@@ -317,24 +281,12 @@ module _ (contents left : ℕ → List ℕ) (image : List ℕ) (read_failed : �
       (course-board bench_command contents left image read_failed failed told before now
       (record { bytes = sym untouched }) still)
 
--- a text is printed in as many pieces as the answer has, if it is one
-few_pieces : (contents left : ℕ → List ℕ) (image : List ℕ) (read_failed : ℕ → Type 0) (text : List ℕ) (end : Ended)
-    (course : Course) → MayTake bench_command contents left image read_failed ⊥ course
-    → IsDue bench_command contents left image read_failed ⊥ (λ shown. shown ≡ text) (λ shown. ⊥) course end
-    ⊎ IsBrokenOff bench_command contents left image read_failed ⊥ (λ shown. shown ≡ text) (λ shown. ⊥) course end
-    → pieces_of (length text) ≤ pieces_of (length (bench_command.answer contents image).shown)
-few_pieces contents left image read_failed text end Answered may (inl due) = rw (sym due.shown) (omega arith)
-few_pieces contents left image read_failed text end (ReadFailed word taken) may (inl due) =
-    rw (sym due.shown) (omega arith)
-few_pieces contents left image read_failed text end NoMemory may (inl due) = rw (sym due.shown) (omega arith)
-few_pieces contents left image read_failed text end (BoardFailed taken) may (inl due) = absurd may.failed
-few_pieces contents left image read_failed text end course may (inr broken) = absurd broken.failed
-
 module _ {E D L : Type 0} {N : ℕ} (F : FileGhosts E) (B : Ghosts D N L) {seal : Seal} {files files' : E}
     {old mid new : D} {before opened now : ℕ} {text : List ℕ} {end last : Ended} {fails : Type 0} (went : ¬ fails)
     (opens : OnlyOpens B fails old mid) (now_held : LeavesNow B mid) (six : opened ≤ before + 6)
     (seal_is : B.tells_image → IsSealedBy (B.image old) seal)
-    (makes : (image : List ℕ) → MakesUnder F image seal files files' text end) where
+    (makes : (image : List ℕ) → Makes (also_told F (IsSealedBy image seal)) bench_command image files files' text
+    end) where
   -- a text is printed behind the opening of the store
   behind : {most : ℕ} → Prints B text most end mid new opened now last
       → Prints B text (6 + most) end old new before now last
@@ -372,9 +324,11 @@ module _ {E D L : Type 0} {N : ℕ} (F : FileGhosts E) (B : Ghosts D N L) {seal 
         arith,
         le,
         p.steps,
-        few_pieces (F.rest files) (F.rest files') (B.image old) _ text end h.course h.may h.stands,
+        few_pieces bench_command (F.rest files) (F.rest files') (B.image old) _ text end h (λ taken. refl),
       ))
-      (λ e. m.follows.read_fault (sym (p.ends (λ f. board_not_read (sym f ∙ e))) ∙ e)) p.cause m.follows.others
+      (λ e. let s = m.follows.read_fault (sym (p.ends (λ f. board_not_read (sym f ∙ e))) ∙ e) in
+      record { word = s.word; reads = s.reads; rose = s.rose; behind = s.behind })
+      p.cause m.follows.others
       (λ known. m.follows.unread (known.0, seal_is known.1))
       (λ read good. m.follows.counts (λ e. read (p.ends good ∙ e)))
       (record {

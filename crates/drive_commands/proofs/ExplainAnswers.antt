@@ -3,12 +3,12 @@ use Rattle.std.{specs.Prelude.{◌⊎◌}, proofs.{Common.{subst, sym}, lemmas.L
 use Rattle.std.proofs.Common.{[], ℕ, ◌++◌, ◌∙◌, ◌≡◌, Err, List, Ok, Result, Some, ap, arith, flat_map, inl, inr, refl}
 use Rattle.outside.{specs.declared.files.Files.{Ghosts as FileGhosts}, proofs.Laws.{rose_behind}}
 use Rattle.{seal_record.specs.Reading.{params_read}, call_ends.proofs.Laws.{stops-with, text_is}}
-use Rattle.call_ends.specs.{Making.{Makes}, Plan.{Last, Next}, Reads.{GoesTo}, Tariffs.{HasTariff}}
+use Rattle.call_ends.specs.{Plan.{Last, Next}, Reads.{GoesTo}, Tariffs.{HasTariff}}
 use Rattle.call_ends.proofs.Laws.{MakesText, ends-failing, ends-lacking, ends-plain, ends-refused, fails-text}
 use Rattle.call_ends.proofs.Laws.{goes-none, goes-on, makes-answer, makes-failing, makes-none, no_fault, refuses-bad}
 use Rattle.store_commands.specs.{StoreEnds.{ended_for_params}, declared.params.ParamsFault.{ParamsFault}}
 use Rattle.drive_commands.specs.{BenchSteps.{IsNoDrive, IsWholeDrive}, ExplainedText.{explanations_text}}
-use Rattle.drive_commands.specs.Common.{BadAt, Drive, Ended, Endless, EndsUnprinted, Event, FailsOr, IsGoing}
+use Rattle.drive_commands.specs.Common.{BadAt, Drive, Ended, Endless, EndsUnprinted, Event, FailsOr, IsGoing, Makes}
 use Rattle.drive_commands.specs.Common.{ParamFault, Params, ReadsWord, Refusal, Run, Setting, StreamEnd, TextFault}
 use Rattle.drive_commands.specs.Common.{Tree, Whole, drive_end, ended_for, explanations_of, run_events, setting_by}
 use Rattle.drive_commands.specs.{Common.{shows, tariff_in}, Explain.{setting_from, setting_with}}

@@ -1,7 +1,18 @@
 -- What a part of a command read of a word, whatever it gives of it.
 use Rattle.std.{specs.Prelude.{OnOk}, proofs.Common.{ℕ, ◌≢◌, Err, Ok, Result, ap, refl}}
 use Rattle.{outside.specs.declared.files.Files.{Ghosts as FileGhosts}, call_ends.proofs.Laws.{no_fault, same_fault}}
-use Rattle.drive_commands.specs.Common.{BoardFault, Ended, ReadFault, ReadsWord}
+use Rattle.drive_commands.specs.Common.{BoardFault, Ended, ReadFault, ReadsWord, also_told}
+
+-- its files may tell what they hold only if something else is told, too
+pub reads-also : {E T : Type 0} {F : FileGhosts E} {word : ℕ} {files files' : E} {r : Result T Ended} (told : Type 0)
+    → ReadsWord F word files files' r → ReadsWord (also_told F told) word files files' r
+reads-also told h = record {
+  ended = λ t. h.ended t.0;
+  read_fault = h.read_fault;
+  others = h.others;
+  counts = h.counts;
+  not_board = h.not_board;
+}
 
 module _ {E T U : Type 0} {F : FileGhosts E} {word : ℕ} {files files' : E} where
   -- it gives nothing

@@ -1,13 +1,12 @@
 -- For proofs: what the command `bench` has before it prints. Bench says what a verification is.
-use Rattle.std.specs.Prelude.{[], ℕ, ◌++◌, ◌≡◌, ◌≢◌, Bool, Err, List, None, Ok, Option, Some, flat_map}
-use Rattle.{outside.specs.declared.files.Files.{Ghosts as FileGhosts}, verify_bench.specs.CrossOvers.{cross_overs_text}}
-use Rattle.verify_bench.specs.{ExpectedReceipts.{expected_of}, PassedReports.{do_all_pass}, Report.{report_text}}
-use Rattle.call_ends.specs.{Making.{EndsWithText}, declared.ending.Ended.TheVariants.{BadDrive, EndlessDrive, NoMemory}}
-use Rattle.call_ends.specs.Reads.{Follows}
-use Rattle.drive_commands.specs.Bench.{Terms, bench_command, ended_for_readings, setting_of_terms}
-use Rattle.drive_commands.specs.Common.{BadAt, BoardFault, Durable, Ended, Endless, Event, IsGoing, IsSplit, ReadFault}
-use Rattle.drive_commands.specs.Common.{Reading, ReadingsFault, Rose, Run, Seal, Stop, TellsEnd, Whole, drive_end}
-use Rattle.drive_commands.specs.Common.{events_of, opening_in, readings_in, run_events, store_of}
+use Rattle.std.specs.Prelude.{[], ℕ, ◌++◌, ◌≡◌, Bool, Err, List, None, Ok, Option, Some, flat_map}
+use Rattle.verify_bench.specs.{CrossOvers.{cross_overs_text}, ExpectedReceipts.{expected_of}, Report.{report_text}}
+use Rattle.verify_bench.specs.PassedReports.{do_all_pass}
+use Rattle.call_ends.specs.declared.ending.Ended.TheVariants.{BadDrive, EndlessDrive, NoMemory}
+use Rattle.drive_commands.specs.Bench.{Terms, ended_for_readings, setting_of_terms}
+use Rattle.drive_commands.specs.Common.{BadAt, Durable, Ended, Endless, Event, IsGoing, IsSplit, ReadFault, Reading}
+use Rattle.drive_commands.specs.Common.{ReadingsFault, Run, Seal, Stop, TellsEnd, Whole, drive_end, events_of}
+use Rattle.drive_commands.specs.Common.{opening_in, readings_in, run_events, store_of}
 use Rattle.meter_run.specs.declared.source.Stop.TheVariants as stops
 
 -- ---- the store
@@ -16,15 +15,6 @@ use Rattle.meter_run.specs.declared.source.Stop.TheVariants as stops
 pub record IsSealedBy (image : List ℕ) (seal : Seal) : Type 0 where
   pub durable : Durable
   pub is : store_of (opening_in image) ≡ Ok (durable, seal)
-
--- a verification under a seal makes a text and an end if it comes to the end with the text over an image whose store
--- has the seal, and reads its words in turn
-pub record MakesUnder {E : Type 0} (F : FileGhosts E) (image : List ℕ) (seal : Seal) (files files' : E) (text : List ℕ)
-    (ended : Ended) : Type 0 where
-  pub comes : F.tells × IsSealedBy image seal → EndsWithText bench_command (F.rest files) (F.rest files') image
-      (λ word. Rose (F.faults files word) (F.faults files' word)) text ended
-  pub follows : Follows F bench_command image (F.tells × IsSealedBy image seal) files files' ended
-  pub not_board : ended ≢ BoardFault
 
 -- ---- the drive
 

@@ -13,15 +13,15 @@ pub use Rattle.{tariff_compile.specs.Tables.{IsTablesOf, TableParts, tables_of},
 pub use Rattle.{meter_model.specs.Setting.{Setting, setting_by}, meter_states.specs.Fits.{Fits, fits_test}}
 pub use Rattle.{meter_states.specs.Setting.{IsSettingOf}, meter_run.specs.declared.fault.RunFault.{RunFault}}
 pub use Rattle.meter_run.specs.{Deeds.{Deed, Prints, after_deeds, changes_of, texts}, declared.source.Stop.{Stop}}
-pub use Rattle.{meter_run.specs.{Drives.{IsBoundedByDrive}, Points.{IsCutOfDeeds}}, call_ends.specs.Carried.{Carries}}
-pub use Rattle.verify_bench.specs.{Generated.{generated}, Readings.{readings_in}}
+pub use Rattle.{meter_run.specs.{Drives.{IsBoundedByDrive}, Points.{IsCutOfDeeds}}, call_ends.specs.Making.{Makes}}
+pub use Rattle.{verify_bench.specs.{Generated.{generated}, Readings.{readings_in}}, call_ends.specs.Stream.{Drive}}
 pub use Rattle.verify_bench.specs.TripExplanations.{Explanation, explanation_of, explanations_of}
 pub use Rattle.verify_bench.specs.declared.reading.{Reading.{Reading}, ReadingsFault.{ReadingsFault}}
 pub use Rattle.call_ends.specs.{Answer.{Answer, shows}, Reads.{FailsOr, ReadsWord}, Tariffs.{bad_tariff, tariff_in}}
-pub use Rattle.call_ends.specs.{Course.{Answered, BoardFailed, Command, NoMemory, ReadFailed, line_in}, Stream.{Drive}}
+pub use Rattle.call_ends.specs.{Carried.{Carries}, Course.{Answered, BoardFailed, Command, ReadFailed, line_in}}
 pub use Rattle.call_ends.specs.{Ending.{EndsUnprinted, IsRefusal, ended_for}, LastLine.{line_of, refused_as, status_of}}
 pub use Rattle.call_ends.specs.declared.{ending.Ended.{Ended}, tariff.Refusal.{Refusal, TheVariants.{TooLong}}}
 pub use Rattle.call_ends.specs.declared.{ending.Ended.TheVariants.{BoardFault, ReadFault}, tariff.TextFault.{TextFault}}
+pub use Rattle.store_commands.specs.{Opened.{also_told}, declared.opening.StoreFault.{StoreFault}}
 pub use Rattle.store_commands.specs.{Opening.{IsSealedIn, opening_in, store_of}, declared.opening.Opening.{Opening}}
-pub use Rattle.store_commands.specs.declared.opening.StoreFault.{StoreFault}
 pub use Rattle.drive_commands.specs.declared.explained_lines.Scale.{Scale}

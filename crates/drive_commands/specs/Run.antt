@@ -3,13 +3,13 @@ use Rattle.{std.specs.{Cmp.Lexicographic.{pointwise}, Prelude.{length, nat_eq, n
 use Rattle.std.specs.Prelude.{[], ℕ, ◌++◌, ◌∷◌, ◌≡◌, ◌≢◌, ◌⊎◌, Bool, Err, List, Ok, Option, Result, Some, if◌then◌else◌}
 use Rattle.{taxi_units.specs.Test.{if_some}, outside.specs.declared.files.Files.{Ghosts as FileGhosts}}
 use Rattle.{outside.specs.{Disk.{IsWithin}, Runs.{IsAtRest, LeavesOnly}}, totals_record.specs.declared.trip.Trip.{Trip}}
-use Rattle.{meter_run.specs.Runs.{run_deeds}, call_ends.specs.{Course.{Course}, Unwritten.{WritesNothing}}}
-use Rattle.{call_ends.specs.Call.{IsCall}, drive_commands.specs.Common.{store_of, tables_of, tariff_in, texts}}
+use Rattle.{meter_run.specs.Runs.{run_deeds}, call_ends.specs.{Course.{Course, NoMemory}, Unwritten.{WritesNothing}}}
+use Rattle.{call_ends.specs.Call.{IsCall}, drive_commands.specs.Common.{tables_of, tariff_in, texts}}
 use Rattle.drive_commands.specs.Common.{Answer, Answered, Begins, BoardFailed, Command, CommitsInTurn, Deed, Drive}
 use Rattle.drive_commands.specs.Common.{Durable, Ended, Ghosts, HasState, IsBoundedByDrive, IsCutOfDeeds, IsGoing}
-use Rattle.drive_commands.specs.Common.{IsSealedIn, LeavesFromSync, NoMemory, Opening, Prints, ReadFailed, Refusal}
-use Rattle.drive_commands.specs.Common.{SameBut, Seal, Setting, StoreFault, TableParts, TooLong, Tree, after_deeds}
-use Rattle.drive_commands.specs.Common.{changes_of, drive_end, fits_test, line_in, opening_in, refused_as, setting_by}
+use Rattle.drive_commands.specs.Common.{IsSealedIn, LeavesFromSync, Opening, Prints, ReadFailed, Refusal, SameBut, Seal}
+use Rattle.drive_commands.specs.Common.{Setting, StoreFault, TableParts, TooLong, Tree, after_deeds, changes_of}
+use Rattle.drive_commands.specs.Common.{drive_end, fits_test, line_in, opening_in, refused_as, setting_by, store_of}
 use Rattle.drive_commands.specs.Fare.{drive_answer}
 use Rattle.call_ends.specs.declared.ending.Ended.TheVariants as ended
 

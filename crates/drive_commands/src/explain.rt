@@ -1,7 +1,7 @@
 //! The command `explain`.
 ghost use Rattle.std.specs.Prelude.{ℕ, ◌≡◌, All, IfOk, List, flat_map};
-ghost use Rattle.{verify_bench.specs.Settings.{setting_under}, call_ends.specs.Making.{Makes, end_made, text_made}};
-ghost use Rattle.drive_commands.specs.Common.{Carries, IsRunInRange, explanations_of, run_events};
+ghost use Rattle.{verify_bench.specs.Settings.{setting_under}, call_ends.specs.Making.{end_made, text_made}};
+ghost use Rattle.drive_commands.specs.Common.{Carries, IsRunInRange, Makes, explanations_of, run_events};
 ghost use Rattle.drive_commands.specs.{Explain.{explain_command}, ExplainedText.{explanations_text}};
 
 use crate::explained_text::text_of_explained;

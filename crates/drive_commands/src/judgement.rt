@@ -1,9 +1,9 @@
 //! Judges readings by a drive.
 ghost use Rattle.std.specs.Prelude.{ℕ, ◌≡◌, All, IfErr, IfOk, List, Ok, flat_map};
-ghost use Rattle.{call_ends.specs.Making.{end_made, text_made}, drive_commands.specs.Bench.{ended_for_readings}};
-ghost use Rattle.drive_commands.specs.BenchSteps.{AreRefused, MakesUnder, judged_pass, judged_text};
-ghost use Rattle.drive_commands.specs.Common.{FailsOr, IsRunInRange, ReadsWord, readings_in, run_events, tree_of};
-ghost use Rattle.drive_commands.specs.DriveEnds.{ended_with};
+ghost use Rattle.{call_ends.specs.Making.{end_made, text_made}, drive_commands.specs.Common.{run_events, tree_of}};
+ghost use Rattle.drive_commands.specs.{Bench.{bench_command, ended_for_readings}, DriveEnds.{ended_with}};
+ghost use Rattle.drive_commands.specs.BenchSteps.{AreRefused, IsSealedBy, judged_pass, judged_text};
+ghost use Rattle.drive_commands.specs.Common.{FailsOr, IsRunInRange, Makes, ReadsWord, also_told, readings_in};
 
 use crate::sealed_tariff::read_sealed;
 use crate::whole_drive::read_drive;
@@ -24,8 +24,8 @@ const MOST: usize = 1_048_576;
 /// Reads the sealed tariff of word 1, the drive of word 2 and the readings of word 3, and gives what is printed of
 /// them.
 pub fn judgement<F: Files>(alloc: Global, seal: &Seal, files: &mut F) -> Result<Made, Ended>
-    ensures { (image : List ℕ) → MakesUnder F.Files image seal.now files.old files.new
-        (text_made result) (end_made result) }
+    ensures { (image : List ℕ) → Makes (also_told F.Files (IsSealedBy image seal.now)) bench_command image
+        files.old files.new (text_made result) (end_made result) }
 {
     let checked = read_sealed(alloc, files, &seal.digest)?;
     let runs = read_drive(alloc, files, 2)?;
