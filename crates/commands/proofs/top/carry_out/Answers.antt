@@ -60,32 +60,28 @@ returns-in-Check g c = rw c.in-Check.is (record {
 
 pub returns-in-Totals : goal.returns-in-Totals
 returns-in-Totals g c = rw c.in-Totals.is (record {
-  carries = carries-unread g.F.Files g.B.Printer totals_command c.args.files.now c.args.board.now
-      c.print_store.new.board c.args.steps.now c.print_store.new.steps c.print_store.result (λ told. told)
-      (λ later h. h) (c.print_store.ensures (g.F.Files.rest c.args.files.now));
+  carries = carries-unread g.F.Files g.B.Printer totals_command _ _ _ _ _ _ (λ told. told) (λ later h. h)
+      (c.print_store.ensures _);
   comes = tt;
 })
 
 pub returns-in-Gen : goal.returns-in-Gen
 returns-in-Gen g c = rw (c.in-Gen.is, ← c.get.ensures.value) (record {
-  carries = carries-unread g.F.Files g.B.Printer (gen_command c.in-Gen.seed c.get.result) c.args.files.now
-      c.args.board.now c.generate.new.board c.args.steps.now c.generate.new.steps c.generate.result (λ told. told)
-      (λ later h. h) (c.generate.ensures (g.F.Files.rest c.args.files.now));
+  carries = carries-unread g.F.Files g.B.Printer (gen_command c.in-Gen.seed c.get.result) _ _ _ _ _ _ (λ told. told)
+      (λ later h. h) (c.generate.ensures _);
   comes = tt;
 })
 
 pub returns-in-Mark : goal.returns-in-Mark
 returns-in-Mark g c = rw c.in-Mark.is (record {
-  carries = carries-unread g.F.Files g.B.Printer (mark_command c.in-Mark.driver) c.args.files.now c.args.board.now
-      c.print_mark.new.board c.args.steps.now c.print_mark.new.steps c.print_mark.result (λ told. told)
-      (λ later h. h) (c.print_mark.ensures (g.F.Files.rest c.args.files.now));
+  carries = carries-unread g.F.Files g.B.Printer (mark_command c.in-Mark.driver) _ _ _ _ _ _ (λ told. told)
+      (λ later h. h) (c.print_mark.ensures _);
   comes = tt;
 })
 
 pub returns-in-Sealed : goal.returns-in-Sealed
 returns-in-Sealed g c = rw c.in-Sealed.is (record {
-  carries = carries-unread g.F.Files g.B.Printer sealed_command c.args.files.now c.args.board.now
-      c.print_sealed.new.board c.args.steps.now c.print_sealed.new.steps c.print_sealed.result (λ told. told)
-      (λ later h. h) (c.print_sealed.ensures (g.F.Files.rest c.args.files.now));
+  carries = carries-unread g.F.Files g.B.Printer sealed_command _ _ _ _ _ _ (λ told. told) (λ later h. h)
+      (c.print_sealed.ensures _);
   comes = tt;
 })

@@ -1,12 +1,11 @@
-use Rattle.std.{specs.Prelude.{Option}, proofs.Common.{ℕ, ◌∙◌, ◌≡◌, ◌≢◌, Some, map, refl, string_bytes, subst, sym}}
+use Rattle.std.{specs.Prelude.{Option}, proofs.Common.{ℕ, ◌∙◌, ◌≡◌, ◌≢◌, Some, refl, subst, sym}}
 use Rattle.outside.{specs.declared.files.Files.{Ghosts as FileGhosts}, proofs.Laws.{keeps_then}}
 use Rattle.call_ends.specs.{Call.{LeavesUnread}, Course.{Answered}, Unwritten.{LeavesImage}}
 use Rattle.call_ends.proofs.Laws.{board_counts, bytes-kept, bytes-then, cause_carried, files_left, not_some, not_status}
 use Rattle.store_commands.proofs.Laws.{seals-finished, seals-settled, unwritten-finished}
 use Rattle.drive_commands.{specs.Run.{run_command}, proofs.Laws.{run-finished}}
-use Rattle.commands.specs.{Carried.{RowReachesLine}, Command.{IsReadOnlyRow, called, command_of}}
+use Rattle.commands.specs.{Carried.{RowReachesLine}, Command.{IsReadOnlyRow, command_of}, declared.words.Row.{Row}}
 use Rattle.commands.specs.Common.{Ended, Ghosts, IsAtRest, IsCall, KeepsStore, WritesNothing}
-use Rattle.commands.specs.declared.words.Row.{Row}
 use Rattle.commands.proofs.Calls.{call_course, call_from, completes, nothing_written, rests_after}
 use Rattle.call_ends.specs.declared.ending.Ended.TheVariants as ended
 use Rattle.commands.specs.declared.words.Row.TheVariants as rows
@@ -30,9 +29,7 @@ returns-in-Some-clause-call g c =
     → IsCall g.F.Files g.B.Printer (command_of o) c.args.files.now c.carry_out-ended.new.files c.args.board.now
     c.finish-in-Some.new.board c.finish-in-Some.result)
     c.in-Some.ensures
-    (λ known. call_from g.F.Files g.B.Printer c.args.files.now c.carry_out-ended.new.files c.args.board.now
-    c.carry_out-ended.new.board c.finish-in-Some.new.board
-    c.carry_out-ended.result c.finish-in-Some.result (cause_carried c.carry_out-ended.ensures.carries)
+    (λ known. call_from g.F.Files g.B.Printer _ _ _ _ _ _ _ (cause_carried c.carry_out-ended.ensures.carries)
     c.finish-in-Some.ensures.count c.finish-in-Some.ensures.ends
     (command_of (Some c.in-Some.row)) (c.carry_out-ended.ensures.carries.ends known)
     (c.carry_out-ended.ensures.carries.unread known))
@@ -55,27 +52,20 @@ returns-in-None-clause-call g c =
 
 pub returns-in-None-clause-complete : goal.returns-in-None-clause-complete
 returns-in-None-clause-complete g c = λ known read calm.
-    completes g.F.Files g.B.Printer (called (map string_bytes c.args.words.now)) c.args.files.now c.args.files.now
-    c.args.board.now c.finish.new.board c.finish.result read calm
-    (returns-in-None-clause-call g c known)
+    completes g.F.Files g.B.Printer _ _ _ _ _ _ read calm (returns-in-None-clause-call g c known)
 
 pub returns-in-Some-clause-complete : goal.returns-in-Some-clause-complete
 returns-in-Some-clause-complete g c = λ known read calm.
-    completes g.F.Files g.B.Printer (called (map string_bytes c.args.words.now)) c.args.files.now
-    c.carry_out-ended.new.files c.args.board.now c.finish-in-Some.new.board
-    c.finish-in-Some.result read calm (returns-in-Some-clause-call g c known)
+    completes g.F.Files g.B.Printer _ _ _ _ _ _ read calm (returns-in-Some-clause-call g c known)
 
 pub returns-in-Some-clause-unwritten : goal.returns-in-Some-clause-unwritten
 returns-in-Some-clause-unwritten g c =
     subst (λ (o : Option Row). ¬ ((command_of o).writes c.finish-in-Some.result)
     → WritesNothing g.B.Printer c.args.board.now c.finish-in-Some.new.board c.finish-in-Some.result)
     c.in-Some.ensures
-    (nothing_written g.F.Files g.B.Printer c.args.files.now c.carry_out-ended.new.files c.args.board.now
-    c.carry_out-ended.new.board c.finish-in-Some.new.board
-    c.carry_out-ended.result c.finish-in-Some.result (cause_carried c.carry_out-ended.ensures.carries)
-    c.finish-in-Some.ensures.count c.finish-in-Some.ensures.ends
-    (command_of (Some c.in-Some.row)) c.args.steps.now c.carry_out-ended.new.steps c.finish-in-Some.ensures.store
-    c.carry_out-ended.ensures.carries)
+    (nothing_written g.F.Files g.B.Printer _ _ _ _ _ _ _ (cause_carried c.carry_out-ended.ensures.carries)
+    c.finish-in-Some.ensures.count c.finish-in-Some.ensures.ends (command_of (Some c.in-Some.row)) _ _
+    c.finish-in-Some.ensures.store c.carry_out-ended.ensures.carries)
 
 pub returns-in-None-clause-unwritten : goal.returns-in-None-clause-unwritten
 returns-in-None-clause-unwritten g c = λ not. record {
@@ -152,12 +142,9 @@ returns-in-Some-clause-at_rest g c =
     (command_of o).opens → c.finish-in-Some.result ≢ 8
     → IsAtRest g.B.Printer c.finish-in-Some.new.board)
     c.in-Some.ensures
-    (rests_after g.F.Files g.B.Printer c.args.files.now c.carry_out-ended.new.files c.args.board.now
-    c.carry_out-ended.new.board c.finish-in-Some.new.board
-    c.carry_out-ended.result c.finish-in-Some.result (cause_carried c.carry_out-ended.ensures.carries)
-    c.finish-in-Some.ensures.count c.finish-in-Some.ensures.ends
-    (command_of (Some c.in-Some.row)) c.args.steps.now c.carry_out-ended.new.steps c.finish-in-Some.ensures.store
-    c.carry_out-ended.ensures.carries)
+    (rests_after g.F.Files g.B.Printer _ _ _ _ _ _ _ (cause_carried c.carry_out-ended.ensures.carries)
+    c.finish-in-Some.ensures.count c.finish-in-Some.ensures.ends (command_of (Some c.in-Some.row)) _ _
+    c.finish-in-Some.ensures.store c.carry_out-ended.ensures.carries)
 
 pub returns-in-None-clause-at_rest : goal.returns-in-None-clause-at_rest
 returns-in-None-clause-at_rest g c =
@@ -168,13 +155,9 @@ returns-in-Some-clause-looks g c =
     subst (λ (o : Option Row). IsReadOnlyRow o → g.B.Printer.tells_image
     → LeavesImage g.B.Printer (c.finish-in-Some.result ≡ 8) c.args.board.now c.finish-in-Some.new.board)
     c.in-Some.ensures
-    (λ looks told. unwritten-finished g.B.Printer c.args.board.now c.carry_out-ended.new.board
-    c.finish-in-Some.new.board
-    c.carry_out-ended.result c.finish-in-Some.result
-    _ _ _ _ (c.carry_out-ended.ensures.carries.looks looks told)
+    (λ looks told. unwritten-finished g.B.Printer _ _ _ _ _ _ _ _ _ (c.carry_out-ended.ensures.carries.looks looks told)
     (g.met.B.Printer.only_now c.carry_out-ended.new.board) c.finish-in-Some.ensures.store
-    c.finish-in-Some.ensures.silent
-    c.finish-in-Some.ensures.ends)
+    c.finish-in-Some.ensures.silent c.finish-in-Some.ensures.ends)
 
 pub returns-in-Some-clause-steps : goal.returns-in-Some-clause-steps
 returns-in-Some-clause-steps g c =
@@ -187,9 +170,7 @@ returns-in-Some-clause-steps g c =
 
 pub returns-in-Some-clause-board_fault : goal.returns-in-Some-clause-board_fault
 returns-in-Some-clause-board_fault g c =
-    board_counts g.B.Printer c.args.board.now c.carry_out-ended.new.board c.finish-in-Some.new.board
-    c.carry_out-ended.result
-    c.finish-in-Some.result (cause_carried c.carry_out-ended.ensures.carries) c.finish-in-Some.ensures.count
+    board_counts g.B.Printer _ _ _ _ _ (cause_carried c.carry_out-ended.ensures.carries) c.finish-in-Some.ensures.count
     c.finish-in-Some.ensures.ends
 
 pub returns-in-None-clause-board_fault : goal.returns-in-None-clause-board_fault
@@ -199,9 +180,7 @@ returns-in-None-clause-board_fault g c =
 
 pub returns-in-Some-clause-unfailed : goal.returns-in-Some-clause-unfailed
 returns-in-Some-clause-unfailed g c =
-    files_left g.B.Printer c.args.board.now c.carry_out-ended.new.board c.finish-in-Some.new.board
-    c.carry_out-ended.result
-    c.finish-in-Some.result (cause_carried c.carry_out-ended.ensures.carries) c.finish-in-Some.ensures.count
+    files_left g.B.Printer _ _ _ _ _ (cause_carried c.carry_out-ended.ensures.carries) c.finish-in-Some.ensures.count
     c.finish-in-Some.ensures.ends (g.F.Files.faults c.args.files.now) (g.F.Files.faults c.carry_out-ended.new.files)
     c.carry_out-ended.ensures.carries.counts
 
