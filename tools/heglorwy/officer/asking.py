@@ -4,13 +4,16 @@ import datetime
 import re
 from typing import NamedTuple
 
+from heglorwy.fineness import compare_weights, finenesses
 from heglorwy.meter import meter_of, millimetres, tenths
 from heglorwy.officer import wording
 from heglorwy.officer.hirings import LONGEST_TRIP, Context, drive_of
 from heglorwy.officer.sealed import params_for
 from heglorwy.officer.showing import shown_in, units
 from heglorwy.program import Differs, Refused, read
+from heglorwy.tables import tables_of
 from heglorwy.tariff import read_tariff
+from heglorwy.tariff_parts import of_kind
 
 FIRST_DIFFERENCE = re.compile(
     r"DIFFERENT (INITIAL|MINIMUM|RATE) T(\d) Z(\d) \w+ (\S+) (\d+):(\d+)(?: (\d+) t (\d+) p)?$", re.MULTILINE
@@ -55,6 +58,8 @@ class Program:
     def __init__(self, taxi, asked):
         self.taxi, self.meter = taxi, meter_of(taxi, asked, params_for(asked, read(asked.tariff)))
         self.tariff = read_tariff(taxi, self.meter.tariff)
+        found = finenesses(of_kind(self.tariff.lines, "rate"), self.meter.constant)
+        compare_weights(found, tables_of(taxi, self.meter.tariff, self.meter.constant).rates)
         self.right = wording.form(self.tariff.lines, self.tariff.decimals)
         printed, status = taxi.call("form", "tariff")
         if status or printed != self.right:
