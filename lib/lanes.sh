@@ -1,14 +1,17 @@
 # The program is built in up to three lanes: rt works on one crate of a checkout at a time, and locks those below it, so each
 # further lane is a copy of the sources, and is given what the others have made. The first lane is the checkout.
 
+# The GB of memory that are free.
+free_memory() { awk '$1 == "MemAvailable:" { memory = int($2 / 1048576) } END { print memory + 0 }' /proc/meminfo; }
+
 # How many lanes serve, by the time that is left, the processors, and the GB of memory and of disk that are free. The gate
 # has proved the crates already.
 count_lanes() {
   local memory disk processors
   processors=$(nproc)
-  memory=$(awk '$1 == "MemAvailable:" { print int($2 / 1048576) }' /proc/meminfo)
+  memory=$(free_memory)
   disk=$(df --output=avail -BG "$top" | tail -n 1 | tr -dc 0-9)
-  if [ -n "${CI-}" ] || [ "$left" -lt 100 ] || [ "$processors" -lt 2 ] || [ "${memory:-0}" -lt 12 ] || [ "${disk:-0}" -lt 10 ]; then echo 1
+  if [ -n "${CI-}" ] || [ "$left" -lt 100 ] || [ "$processors" -lt 2 ] || [ "$memory" -lt 12 ] || [ "${disk:-0}" -lt 10 ]; then echo 1
   elif [ "$processors" -lt 4 ] || [ "$memory" -lt 16 ] || [ "$disk" -lt 15 ]; then echo 2
   else echo 3; fi
 }
@@ -68,20 +71,12 @@ next_in() {
   done
 }
 
-# Whether a crate that is begun may have two jobs: nothing else goes on, and there is room for them. Of itself rt gives the
-# upper crates one, since it plans three times the memory that they take (docs/STATUS.md).
-have_room() {
-  [ "$(nproc)" -ge 2 ] && [ -z "$(printf %s "${of[@]}")" ] && { [ ${#folder[@]} -eq 1 ] || [ -z "$(next_in 1)" ]; } &&
-    [ "$(awk '$1 == "MemAvailable:" { print int($2 / 1048576) }' /proc/meminfo)" -ge 10 ]
-}
-
 # Begins with the next crate in a lane.
 begin_in() {
-  local jobs=1 next
+  local next
   next=$(next_in "$1")
   [ -n "$next" ] || return 0
   crate=$next todo=${todo/ $next / } place=$((place + 1))
-  ! have_room || jobs=2
   of[$1]=$next
   # The program itself is built by a run that needs no file.
   # shellcheck disable=SC2086
@@ -120,11 +115,13 @@ end_lanes() {
 
 # Proves and builds the crates in all lanes.
 build_in_lanes() {
-  local todo made=' ' second=0 at status=0 of=() pid=() folder=()
+  local todo made=' ' second=0 at status=0 jobs=1 of=() pid=() folder=()
   crates=${crates//$'\n'/ }
   todo=" $(longest_first | sed 's/$/ /' | tr '\n' ' ') "
   trap 'end_lanes; exit 130' INT TERM
   make_lanes || status=1
+  # Each job reads all libraries, so two of one crate serve only if there is no other lane.
+  [ ${#folder[@]} -gt 1 ] || [ "$(nproc)" -lt 2 ] || [ "$(free_memory)" -lt 10 ] || jobs=2
   while [ $status -eq 0 ] && [ -n "${todo// /}$(printf %s "${of[@]}")" ]; do
     for at in "${!folder[@]}"; do [ -n "${of[at]-}" ] || begin_in "$at"; done
     sleep 1
