@@ -1,10 +1,10 @@
 //! The last lines of the program.
-ghost use Rattle.std.specs.Prelude.{[], ◌++◌, ◌+◌, ◌≡◌, ◌≤◌, codes, length};
+ghost use Rattle.std.specs.Prelude.{[], ℕ, ◌++◌, ◌+◌, ◌≡◌, ◌≤◌, None, Some, codes, length};
 ghost use Rattle.{arrayvec.specs.ArrayVec.{array_vec_len}, taxi_units.specs.Line.{line_size}};
-ghost use Rattle.call_ends.specs.LastLine.{bad_params_line, bad_rules_line, bad_tariff_line, dimension_text};
-ghost use Rattle.call_ends.specs.LastLine.{fault_text, line_of, name_text, numbered, other_decimals_line};
-ghost use Rattle.call_ends.specs.LastLine.{param_fault_text, refusal_text, same_number_line, sound_line};
-ghost use Rattle.call_ends.specs.LastLine.{wrong_tariff_line};
+ghost use Rattle.tariff_check.specs.declared.fault.CheckFault.TheVariants.{TooManyCuts};
+ghost use Rattle.call_ends.specs.LastLine.{bad_params_line, bad_rules_line, bad_tariff_line, fault_text, line_of};
+ghost use Rattle.call_ends.specs.LastLine.{name_text, numbered, other_decimals_line, param_fault_text, refusal_text};
+ghost use Rattle.call_ends.specs.LastLine.{same_number_line, sound_line, wrong_tariff_line};
 
 use crate::ending::Ended;
 use crate::number_line::push_number_line;
@@ -106,25 +106,34 @@ fn push_fault(line: &mut Line, fault: CheckFault)
     ensures text { line.new.items ≡ line.old.items ++ fault_text fault }
     ensures len { array_vec_len line.new ≤ array_vec_len line.old + 80 }
 {
+    match words_of(fault) {
+        (name, None) => push_bytes(line, name),
+        (name, Some(number)) => push_numbered(line, name, number),
+    }
+}
+
+/// The name of a fault, and the number behind it, if there is one.
+fn words_of(fault: CheckFault) -> (&'static [u8], Option<u64>)
+    ensures alone { result.1 ≡ None → result.0.now ≡ fault_text fault }
+    ensures numbered { (n : ℕ) → result.1 ≡ Some n → numbered result.0.now n ≡ fault_text fault }
+    ensures len { length result.0.now ≤ 20 }
+{
     match fault {
-        CheckFault::NoStep => push_bytes(line, b"NoStep"),
-        CheckFault::StepZero => push_bytes(line, b"StepZero"),
-        CheckFault::Duplicate(at) => push_numbered(line, b"Duplicate", at as u64),
-        CheckFault::TooManyLines(at) => push_numbered(line, b"TooManyLines", at as u64),
-        CheckFault::UnknownNumber(at) => push_numbered(line, b"UnknownNumber", at as u64),
-        CheckFault::NoDefaultRate => push_bytes(line, b"NoDefaultRate"),
-        CheckFault::NoDefaultInitial => push_bytes(line, b"NoDefaultInitial"),
-        CheckFault::LineAfterDefault(at) => push_numbered(line, b"LineAfterDefault", at as u64),
-        CheckFault::BadDate(at) => push_numbered(line, b"BadDate", at as u64),
-        CheckFault::AmountTooBig(at) => push_numbered(line, b"AmountTooBig", at as u64),
-        CheckFault::MeasureZero(at) => push_numbered(line, b"MeasureZero", at as u64),
-        CheckFault::NoCommonMeasure => push_bytes(line, b"NoCommonMeasure"),
-        CheckFault::TooManyCuts(dimension, count) => {
-            push_bytes(line, b"TooManyCuts ");
-            push_numbered(line, dimension_name(dimension), count as u64);
-        }
-        CheckFault::TooManyCells(count) => push_numbered(line, b"TooManyCells", count),
-        CheckFault::NoMemory => push_bytes(line, b"NoMemory"),
+        CheckFault::NoStep => (b"NoStep", None),
+        CheckFault::StepZero => (b"StepZero", None),
+        CheckFault::Duplicate(at) => (b"Duplicate", Some(at as u64)),
+        CheckFault::TooManyLines(at) => (b"TooManyLines", Some(at as u64)),
+        CheckFault::UnknownNumber(at) => (b"UnknownNumber", Some(at as u64)),
+        CheckFault::NoDefaultRate => (b"NoDefaultRate", None),
+        CheckFault::NoDefaultInitial => (b"NoDefaultInitial", None),
+        CheckFault::LineAfterDefault(at) => (b"LineAfterDefault", Some(at as u64)),
+        CheckFault::BadDate(at) => (b"BadDate", Some(at as u64)),
+        CheckFault::AmountTooBig(at) => (b"AmountTooBig", Some(at as u64)),
+        CheckFault::MeasureZero(at) => (b"MeasureZero", Some(at as u64)),
+        CheckFault::NoCommonMeasure => (b"NoCommonMeasure", None),
+        CheckFault::TooManyCuts(dimension, count) => (cuts_name(dimension), Some(count as u64)),
+        CheckFault::TooManyCells(count) => (b"TooManyCells", Some(count)),
+        CheckFault::NoMemory => (b"NoMemory", None),
     }
 }
 
@@ -139,16 +148,16 @@ fn push_numbered(line: &mut Line, name: &[u8], number: u64)
     push_number(line, number as u128);
 }
 
-/// The name of a dimension.
-fn dimension_name(dimension: Dimension) -> &'static [u8]
-    ensures text { result.now ≡ dimension_text dimension }
-    ensures len { length result.now ≤ 8 }
+/// The name of the fault that a dimension has too many cuts, up to their number.
+fn cuts_name(dimension: Dimension) -> &'static [u8]
+    ensures text { (count : ℕ) → numbered result.now count ≡ fault_text (TooManyCuts dimension count) }
+    ensures len { length result.now ≤ 20 }
 {
     match dimension {
-        Dimension::MonthDay => b"MonthDay",
-        Dimension::Minute => b"Minute",
-        Dimension::Distance => b"Distance",
-        Dimension::Time => b"Time",
+        Dimension::MonthDay => b"TooManyCuts MonthDay",
+        Dimension::Minute => b"TooManyCuts Minute",
+        Dimension::Distance => b"TooManyCuts Distance",
+        Dimension::Time => b"TooManyCuts Time",
     }
 }
 
