@@ -9,18 +9,17 @@ ghost use Rattle.verify_bench.specs.Common.{pulses_so_far, roaming_checked, roam
 ghost use Rattle.verify_bench.specs.{Common.{with_interval}, Settings.{setting_under}};
 ghost use Rattle.tariff_syntax.specs.declared.context.Context as contexts;
 
+use crate::clock::local_time;
 use crate::explained::Explained;
 use crate::hiring::Hiring;
 use crate::lookups::is_holiday;
 use crate::pricing::price_of;
 use crate::telling::{Closing, explained};
-use interval_clock::civil;
 use seal_record::Params;
 use std::alloc::Global;
-use std::sync::ledger::Ledger;
 use tariff_check::Checked;
 use tariff_syntax::Context;
-use taxi_units::{HIRINGS_END, Key, Kind, NoMemory, Operating, ROAMING_MOST, Steps};
+use taxi_units::{HIRINGS_END, Key, Kind, NoMemory, Operating, ROAMING_MOST};
 
 /// How a trip that is held without supply goes on.
 #[derive(Clone, Copy)]
@@ -76,13 +75,7 @@ impl BenchMeter {
     }
 
     /// The context at a second.
-    pub(crate) fn context<L: Ledger>(
-        &self,
-        second: u64,
-        checked: &Checked,
-        params: &Params,
-        steps: &mut Steps<L>,
-    ) -> Context
+    pub(crate) fn context(&self, second: u64, checked: &Checked, params: &Params) -> Context
         requires second { IsSecond second }
         requires sound { IsMeterInRange longest_trip 1 self.now }
         ensures { (m : Meter) (hired : contexts.Context)
@@ -90,7 +83,7 @@ impl BenchMeter {
             → result ≡ context_on (setting_under checked.now params.now)
             (local_at (setting_under checked.now params.now) second) m }
     {
-        let local = civil(&params.offsets, second, steps);
+        let local = local_time(&params.offsets, second);
         let day = (local.year, local.month, local.date);
         Context {
             constant: params.constant,
@@ -106,7 +99,7 @@ impl BenchMeter {
     }
 
     /// Closes the trip at a second, and takes it apart.
-    pub(crate) fn close<L: Ledger>(
+    pub(crate) fn close(
         &mut self,
         kind: Kind,
         finish: u64,
@@ -114,7 +107,6 @@ impl BenchMeter {
         checked: &Checked,
         params: &Params,
         found: &mut Vec<Explained>,
-        steps: &mut Steps<L>,
     ) -> Result<(), NoMemory>
         requires sound { IsMeterInRange longest_trip 1 self.old }
         requires kind { is_of_hiring kind ≡ true }
@@ -137,7 +129,7 @@ impl BenchMeter {
                     position: self.position,
                     number: self.number,
                 };
-                let explained = explained(alloc, &hiring, closing, checked, params, steps)?;
+                let explained = explained(alloc, &hiring, closing, checked, params)?;
                 found.push(explained).map_err(|_| NoMemory)
             }
         }
@@ -228,11 +220,10 @@ impl BenchMeter {
     }
 
     /// Ends the interval.
-    pub(crate) fn count_interval<L: Ledger>(
+    pub(crate) fn count_interval(
         &mut self,
         checked: &Checked,
         params: &Params,
-        steps: &mut Steps<L>,
     ) -> Result<(), NoMemory>
         requires sound { IsMeterInRange last_tick 0 self.old }
         ensures stands { OnOk result ((m : Meter) (hired : contexts.Context)
@@ -248,7 +239,7 @@ impl BenchMeter {
                 Ok(())
             }
             Operating::Hired => {
-                let x = self.context(self.began, checked, params, steps);
+                let x = self.context(self.began, checked, params);
                 self.add_hired(&x, checked, params)?;
                 Ok(())
             }

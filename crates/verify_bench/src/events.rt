@@ -7,9 +7,8 @@ use crate::bench_meter::BenchMeter;
 use crate::explained::Explained;
 use seal_record::Params;
 use std::alloc::Global;
-use std::sync::ledger::Ledger;
 use tariff_check::Checked;
-use taxi_units::{Event, NoMemory, Operating, Steps};
+use taxi_units::{Event, NoMemory, Operating};
 
 /// The most pulses of an interval.
 const INTERVAL_MOST: u32 = 2000;
@@ -18,14 +17,13 @@ impl BenchMeter {
     ghost use Rattle.verify_bench.specs.Bench.{GoesThroughEvent, GoesThroughQuietly, IsMeterInRange, MayTake};
 
     /// Carries out an event.
-    pub(crate) fn event<L: Ledger>(
+    pub(crate) fn event(
         &mut self,
         event: Event,
         alloc: Global,
         checked: &Checked,
         params: &Params,
         found: &mut Vec<Explained>,
-        steps: &mut Steps<L>,
     ) -> Result<(), NoMemory>
         requires takes { MayTake self.old event }
         ensures moves { OnOk result (GoesThroughEvent (setting_under checked.now params.now) event (λ s. step s event)
@@ -34,24 +32,23 @@ impl BenchMeter {
     {
         match self.operating {
             Operating::Off => match event {
-                Event::Up(second) => self.come_up(second, alloc, checked, params, found, steps),
+                Event::Up(second) => self.come_up(second, alloc, checked, params, found),
                 _ => Ok(()),
             },
             Operating::ForHire | Operating::Hired | Operating::Stopped => {
-                self.powered_event(event, alloc, checked, params, found, steps)
+                self.powered_event(event, alloc, checked, params, found)
             }
         }
     }
 
     /// Carries out an event while the meter is powered.
-    fn powered_event<L: Ledger>(
+    fn powered_event(
         &mut self,
         event: Event,
         alloc: Global,
         checked: &Checked,
         params: &Params,
         found: &mut Vec<Explained>,
-        steps: &mut Steps<L>,
     ) -> Result<(), NoMemory>
         requires takes { MayTake self.old event }
         ensures moves { OnOk result (GoesThroughEvent (setting_under checked.now params.now) event
@@ -60,12 +57,12 @@ impl BenchMeter {
     {
         match event {
             Event::Up(_) => Ok(()),
-            Event::Down => self.go_down(alloc, checked, params, found, steps),
+            Event::Down => self.go_down(alloc, checked, params, found),
             Event::Pulses(pulses) => {
                 self.take_pulses(pulses);
                 Ok(())
             }
-            Event::Tick => self.tick(alloc, checked, params, found, steps),
+            Event::Tick => self.tick(alloc, checked, params, found),
             Event::Clock(second) => {
                 self.read_clock(second);
                 Ok(())

@@ -11,10 +11,8 @@ use crate::explained::Explained;
 use drive_text::Run;
 use seal_record::{Params, Seal};
 use std::alloc::Global;
-use std::marker::Brand;
-use std::sync::ledger::{Blank, Ledger};
 use tariff_check::Checked;
-use taxi_units::{Event, FIRST_SECOND, NoMemory, Operating, Steps};
+use taxi_units::{Event, FIRST_SECOND, NoMemory, Operating};
 
 /// What a drive should come to: the receipts of its hirings, from an empty store of number 1, with a supply drop at its
 /// end. It charges each interval of a trip by the tariff's parts, in the context of the interval's beginning. A meter
@@ -31,7 +29,18 @@ pub fn expect(
     ensures { IfOk result (λ list. list.items
         ≡ expected_of (setting_under checked.now seal.now.params) (flat_map run_events runs.now)) }
 {
-    expect_counted::<Brand>(Blank::new(1), alloc, checked, &seal.params, runs)
+    let params = &seal.params;
+    let mut meter = BenchMeter::new();
+    let mut found = Vec::new(alloc);
+    for run in runs {
+        let mut explained = Vec::new(alloc);
+        meter.follow(*run, alloc, checked, params, &mut explained)?;
+        put_expected(&mut found, explained.as_slice())?;
+    }
+    let mut explained = Vec::new(alloc);
+    meter.drop_at_end(alloc, checked, params, &mut explained)?;
+    put_expected(&mut found, explained.as_slice())?;
+    Ok(found)
 }
 
 /// Why the fare of each hiring that a drive closes is what it is: the hirings in order, each taken apart by its rates
@@ -49,60 +58,12 @@ pub fn explain(
     ensures { IfOk result (λ list. map explanation_of list.items
         ≡ explanations_of (setting_under checked.now params.now) (flat_map run_events runs.now)) }
 {
-    explain_counted::<Brand>(Blank::new(1), alloc, checked, params, runs)
-}
-
-/// Why the fares of a drive are what they are, with a counter of the steps that local times take.
-fn explain_counted<L: Ledger>(
-    blank: Blank,
-    alloc: Global,
-    checked: &Checked,
-    params: &Params,
-    runs: &[Run],
-) -> Result<Vec<Explained>, NoMemory>
-    requires name { blank.name ≡ L.name }
-    requires parts { blank.parts ≡ L.parts }
-    requires some { 0 < blank.parts }
-    requires range { All IsRunInRange runs.now }
-    ensures { IfOk result (λ list. map explanation_of list.items
-        ≡ explanations_of (setting_under checked.now params.now) (flat_map run_events runs.now)) }
-{
-    let mut steps: Steps<L> = Steps::open(blank);
     let mut meter = BenchMeter::new();
     let mut found = Vec::new(alloc);
     for run in runs {
-        meter.follow(*run, alloc, checked, params, &mut found, &mut steps)?;
+        meter.follow(*run, alloc, checked, params, &mut found)?;
     }
-    meter.drop_at_end(alloc, checked, params, &mut found, &mut steps)?;
-    Ok(found)
-}
-
-/// What a drive should come to, with a counter of the steps that local times take.
-fn expect_counted<L: Ledger>(
-    blank: Blank,
-    alloc: Global,
-    checked: &Checked,
-    params: &Params,
-    runs: &[Run],
-) -> Result<Vec<Expected>, NoMemory>
-    requires name { blank.name ≡ L.name }
-    requires parts { blank.parts ≡ L.parts }
-    requires some { 0 < blank.parts }
-    requires range { All IsRunInRange runs.now }
-    ensures { IfOk result (λ list. list.items
-        ≡ expected_of (setting_under checked.now params.now) (flat_map run_events runs.now)) }
-{
-    let mut steps: Steps<L> = Steps::open(blank);
-    let mut meter = BenchMeter::new();
-    let mut found = Vec::new(alloc);
-    for run in runs {
-        let mut explained = Vec::new(alloc);
-        meter.follow(*run, alloc, checked, params, &mut explained, &mut steps)?;
-        put_expected(&mut found, explained.as_slice())?;
-    }
-    let mut explained = Vec::new(alloc);
-    meter.drop_at_end(alloc, checked, params, &mut explained, &mut steps)?;
-    put_expected(&mut found, explained.as_slice())?;
+    meter.drop_at_end(alloc, checked, params, &mut found)?;
     Ok(found)
 }
 
@@ -147,14 +108,13 @@ impl BenchMeter {
     }
 
     /// Carries out a run of a drive.
-    fn follow<L: Ledger>(
+    fn follow(
         &mut self,
         run: Run,
         alloc: Global,
         checked: &Checked,
         params: &Params,
         found: &mut Vec<Explained>,
-        steps: &mut Steps<L>,
     ) -> Result<(), NoMemory>
         requires sound { IsMeterInRange last_tick 0 self.old }
         requires range { IsRunInRange run }
@@ -163,15 +123,15 @@ impl BenchMeter {
         ensures sound { OnOk result (IsMeterInRange last_tick 0 self.new) }
     {
         match run {
-            Run::One(event) => self.carry(event, alloc, checked, params, found, steps),
+            Run::One(event) => self.carry(event, alloc, checked, params, found),
             Run::Many { pulses, count } => {
-                self.intervals(pulses, count, alloc, checked, params, found, steps)
+                self.intervals(pulses, count, alloc, checked, params, found)
             }
         }
     }
 
     /// Carries out intervals, one after another.
-    fn intervals<L: Ledger>(
+    fn intervals(
         &mut self,
         pulses: u32,
         count: u32,
@@ -179,7 +139,6 @@ impl BenchMeter {
         checked: &Checked,
         params: &Params,
         found: &mut Vec<Explained>,
-        steps: &mut Steps<L>,
     ) -> Result<(), NoMemory>
         requires sound { IsMeterInRange last_tick 0 self.old }
         requires pulses { pulses ≤ 65535 }
@@ -188,20 +147,19 @@ impl BenchMeter {
         ensures sound { OnOk result (IsMeterInRange last_tick 0 self.new) }
     {
         for place in 0..count {
-            self.interval(pulses, alloc, checked, params, found, steps)?;
+            self.interval(pulses, alloc, checked, params, found)?;
         }
         Ok(())
     }
 
     /// Carries out an interval.
-    fn interval<L: Ledger>(
+    fn interval(
         &mut self,
         pulses: u32,
         alloc: Global,
         checked: &Checked,
         params: &Params,
         found: &mut Vec<Explained>,
-        steps: &mut Steps<L>,
     ) -> Result<(), NoMemory>
         requires sound { IsMeterInRange last_tick 0 self.old }
         requires pulses { pulses ≤ 65535 }
@@ -210,28 +168,27 @@ impl BenchMeter {
         ensures sound { OnOk result (IsMeterInRange last_tick 0 self.new) }
     {
         if pulses == 0 {
-            return self.carry(Event::Tick, alloc, checked, params, found, steps);
+            return self.carry(Event::Tick, alloc, checked, params, found);
         }
-        self.carry(Event::Pulses(pulses), alloc, checked, params, found, steps)?;
-        self.carry(Event::Tick, alloc, checked, params, found, steps)
+        self.carry(Event::Pulses(pulses), alloc, checked, params, found)?;
+        self.carry(Event::Tick, alloc, checked, params, found)
     }
 
     /// Carries out an event.
-    fn carry<L: Ledger>(
+    fn carry(
         &mut self,
         event: Event,
         alloc: Global,
         checked: &Checked,
         params: &Params,
         found: &mut Vec<Explained>,
-        steps: &mut Steps<L>,
     ) -> Result<(), NoMemory>
         requires takes { MayTake self.old event }
         ensures carries { OnOk result (Carries (setting_under checked.now params.now) (event ∷ [])
             self.old self.new found.old.items found.new.items) }
         ensures sound { OnOk result (IsMeterInRange last_tick 0 self.new) }
     {
-        self.event(event, alloc, checked, params, found, steps)?;
+        self.event(event, alloc, checked, params, found)?;
         Ok(())
     }
 }

@@ -13,9 +13,8 @@ use crate::fees::fees_of_hiring;
 use crate::hiring::Hiring;
 use seal_record::Params;
 use std::alloc::Global;
-use std::sync::ledger::Ledger;
 use tariff_check::{Checked, Supplement};
-use taxi_units::{HIRINGS_END, Key, Kind, NoMemory, Operating, Steps};
+use taxi_units::{HIRINGS_END, Key, Kind, NoMemory, Operating};
 
 impl BenchMeter {
     ghost use Rattle.verify_bench.specs.Bench.{GoesThroughHiring, GoesThroughKey, GoesThroughQuietly, IsMeterInRange};
@@ -33,13 +32,7 @@ impl BenchMeter {
     }
 
     /// Begins a trip.
-    pub(crate) fn hire<L: Ledger>(
-        &mut self,
-        alloc: Global,
-        checked: &Checked,
-        params: &Params,
-        steps: &mut Steps<L>,
-    )
+    pub(crate) fn hire(&mut self, alloc: Global, checked: &Checked, params: &Params)
         requires sound { IsMeterInRange last_tick 0 self.old }
         requires for_hire { self.old.operating ≡ ForHire }
         ensures moves { GoesThroughHiring (setting_under checked.now params.now) self.old self.new }
@@ -48,7 +41,7 @@ impl BenchMeter {
         if self.number >= HIRINGS_END {
             return;
         }
-        let x = self.context(self.clock, checked, params, steps);
+        let x = self.context(self.clock, checked, params);
         let fees = fees_of_hiring(checked, &x);
         self.hiring = Some(Hiring::new(alloc, self.clock, fees));
         self.operating = Operating::Hired;
@@ -114,14 +107,13 @@ impl BenchMeter {
     }
 
     /// Does what a key does as it acts.
-    pub(crate) fn act<L: Ledger>(
+    pub(crate) fn act(
         &mut self,
         key: Key,
         alloc: Global,
         checked: &Checked,
         params: &Params,
         found: &mut Vec<Explained>,
-        steps: &mut Steps<L>,
     ) -> Result<(), NoMemory>
         requires sound { IsMeterInRange last_tick 0 self.old }
         ensures moves { OnOk result (GoesThroughKey (setting_under checked.now params.now) key
@@ -130,7 +122,7 @@ impl BenchMeter {
     {
         match (key, self.operating) {
             (Key::Hire, Operating::ForHire) => {
-                self.hire(alloc, checked, params, steps);
+                self.hire(alloc, checked, params);
                 Ok(())
             }
             (Key::Hire, Operating::Stopped) => {
@@ -142,15 +134,7 @@ impl BenchMeter {
                 Ok(())
             }
             (Key::Clear, Operating::Stopped) => {
-                self.close(
-                    Kind::Closed,
-                    self.clock,
-                    alloc,
-                    checked,
-                    params,
-                    found,
-                    steps,
-                )?;
+                self.close(Kind::Closed, self.clock, alloc, checked, params, found)?;
                 Ok(())
             }
             (Key::Position(number), Operating::ForHire | Operating::Hired) => {

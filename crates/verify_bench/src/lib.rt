@@ -3,6 +3,7 @@
 #![tactic(auto)]
 
 mod bench_meter;
+mod clock;
 mod events;
 mod expected;
 mod expecting;

@@ -10,23 +10,21 @@ use crate::bench_meter::{BenchMeter, SavedState};
 use crate::explained::Explained;
 use seal_record::Params;
 use std::alloc::Global;
-use std::sync::ledger::Ledger;
 use tariff_check::Checked;
-use taxi_units::{Kind, LAST_NUMBER, NoMemory, Operating, Steps};
+use taxi_units::{Kind, LAST_NUMBER, NoMemory, Operating};
 
 impl BenchMeter {
     ghost use Rattle.verify_bench.specs.Bench.{BenchStands, GoesThrough, GoesThroughEvent, GoesThroughQuietly};
     ghost use Rattle.verify_bench.specs.Bench.{IsMeterInRange, Moves};
 
     /// Lets the supply come.
-    pub(crate) fn come_up<L: Ledger>(
+    pub(crate) fn come_up(
         &mut self,
         second: u64,
         alloc: Global,
         checked: &Checked,
         params: &Params,
         found: &mut Vec<Explained>,
-        steps: &mut Steps<L>,
     ) -> Result<(), NoMemory>
         requires sound { IsMeterInRange last_tick 0 self.old }
         requires second { IsSecond second }
@@ -35,7 +33,7 @@ impl BenchMeter {
         ensures sound { OnOk result (IsMeterInRange last_tick 0 self.new) }
     {
         self.wake(second);
-        self.take_hold(second, alloc, checked, params, found, steps)
+        self.take_hold(second, alloc, checked, params, found)
     }
 
     /// Powers the meter, which is still off.
@@ -57,14 +55,13 @@ impl BenchMeter {
     }
 
     /// Resumes or aborts the held trip.
-    fn take_hold<L: Ledger>(
+    fn take_hold(
         &mut self,
         second: u64,
         alloc: Global,
         checked: &Checked,
         params: &Params,
         found: &mut Vec<Explained>,
-        steps: &mut Steps<L>,
     ) -> Result<(), NoMemory>
         requires sound { IsMeterInRange last_tick 0 self.old }
         requires second { IsSecond second }
@@ -85,7 +82,7 @@ impl BenchMeter {
                     self.resume(held);
                     Ok(())
                 } else {
-                    self.abort(held, alloc, checked, params, found, steps)?;
+                    self.abort(held, alloc, checked, params, found)?;
                     Ok(())
                 }
             }
@@ -109,14 +106,13 @@ impl BenchMeter {
     }
 
     /// Closes a held trip at its position.
-    fn abort<L: Ledger>(
+    fn abort(
         &mut self,
         held: SavedState,
         alloc: Global,
         checked: &Checked,
         params: &Params,
         found: &mut Vec<Explained>,
-        steps: &mut Steps<L>,
     ) -> Result<(), NoMemory>
         requires sound { IsMeterInRange last_tick 0 self.old }
         requires saved { IsSecond held.saved }
@@ -126,28 +122,19 @@ impl BenchMeter {
         ensures sound { OnOk result (IsMeterInRange last_tick 0 self.new) }
     {
         self.position = held.position;
-        self.close(
-            Kind::Aborted,
-            held.saved,
-            alloc,
-            checked,
-            params,
-            found,
-            steps,
-        )?;
+        self.close(Kind::Aborted, held.saved, alloc, checked, params, found)?;
         self.position = 1;
         self.zone = 1;
         Ok(())
     }
 
     /// Lets the supply drop.
-    pub(crate) fn go_down<L: Ledger>(
+    pub(crate) fn go_down(
         &mut self,
         alloc: Global,
         checked: &Checked,
         params: &Params,
         found: &mut Vec<Explained>,
-        steps: &mut Steps<L>,
     ) -> Result<(), NoMemory>
         requires sound { IsMeterInRange last_tick 0 self.old }
         ensures moves { OnOk result (GoesThroughEvent (setting_under checked.now params.now) Down supply_dropped
@@ -155,20 +142,19 @@ impl BenchMeter {
         ensures sound { OnOk result (IsMeterInRange last_tick 0 self.new) }
     {
         self.leave_interval();
-        self.hold_or_close(alloc, checked, params, found, steps)?;
+        self.hold_or_close(alloc, checked, params, found)?;
         self.operating = Operating::Off;
         self.latch = None;
         Ok(())
     }
 
     /// Holds or closes the trip; without one it enters roaming.
-    fn hold_or_close<L: Ledger>(
+    fn hold_or_close(
         &mut self,
         alloc: Global,
         checked: &Checked,
         params: &Params,
         found: &mut Vec<Explained>,
-        steps: &mut Steps<L>,
     ) -> Result<(), NoMemory>
         requires sound { IsMeterInRange last_tick 1 self.old }
         ensures moves { OnOk result
@@ -186,15 +172,7 @@ impl BenchMeter {
                     self.hold();
                     return Ok(());
                 }
-                self.close(
-                    Kind::Aborted,
-                    self.clock,
-                    alloc,
-                    checked,
-                    params,
-                    found,
-                    steps,
-                )
+                self.close(Kind::Aborted, self.clock, alloc, checked, params, found)
             }
         }
     }
@@ -231,13 +209,12 @@ impl BenchMeter {
     }
 
     /// Ends the drive: the supply drops, if the meter is powered.
-    pub(crate) fn drop_at_end<L: Ledger>(
+    pub(crate) fn drop_at_end(
         &mut self,
         alloc: Global,
         checked: &Checked,
         params: &Params,
         found: &mut Vec<Explained>,
-        steps: &mut Steps<L>,
     ) -> Result<(), NoMemory>
         requires sound { IsMeterInRange last_tick 0 self.old }
         ensures { OnOk result (GoesThroughEvent (setting_under checked.now params.now) Down ended
@@ -246,7 +223,7 @@ impl BenchMeter {
         match self.operating {
             Operating::Off => Ok(()),
             Operating::ForHire | Operating::Hired | Operating::Stopped => {
-                self.go_down(alloc, checked, params, found, steps)
+                self.go_down(alloc, checked, params, found)
             }
         }
     }

@@ -7,17 +7,16 @@ ghost use Rattle.verify_bench.specs.{Gathered.{IsTableOf, all_ways}, Hirings.{Is
 ghost use Rattle.verify_bench.specs.Settings.{setting_under};
 ghost use Rattle.verify_bench.specs.TripExplanations.{explanation, explanation_of, taken_if, taken_of};
 
+use crate::clock::local_time;
 use crate::explained::{Explained, Group, Sums, Taken, Way};
 use crate::fares::{fare_shown, steps_shown};
 use crate::hiring::Hiring;
 use crate::sums::RateSums;
 use drive_modes::millimetres;
-use interval_clock::civil;
 use seal_record::Params;
 use std::alloc::Global;
-use std::sync::ledger::Ledger;
 use tariff_check::{Checked, Choice, RateNumbers};
-use taxi_units::{Kind, NoMemory, Receipt, Stamp, Steps};
+use taxi_units::{Kind, NoMemory, Receipt, Stamp};
 
 /// How a hiring is closed: its kind, its second, the tariff position, and the store's number after the entry.
 #[derive(Clone, Copy)]
@@ -29,13 +28,12 @@ pub(crate) struct Closing {
 }
 
 /// A hiring that is closed, taken apart.
-pub(crate) fn explained<L: Ledger>(
+pub(crate) fn explained(
     alloc: Global,
     hiring: &Hiring,
     closing: Closing,
     checked: &Checked,
     params: &Params,
-    steps: &mut Steps<L>,
 ) -> Result<Explained, NoMemory>
     requires whole { IsWhole hiring.now }
     requires ticks { hiring.now.whole.ticks ≤ longest_trip }
@@ -46,7 +44,7 @@ pub(crate) fn explained<L: Ledger>(
         (receipt_of (setting_under checked.now params.now)
         closing.kind closing.finish closing.position trip closing.number)) }
 {
-    let receipt = receipt(hiring, closing, checked, params, steps);
+    let receipt = receipt(hiring, closing, checked, params);
     let groups = groups(alloc, checked.rates(), hiring.rates.as_slice())?;
     let taken = taken(alloc, hiring, checked)?;
     Ok(Explained {
@@ -61,13 +59,7 @@ pub(crate) fn explained<L: Ledger>(
 }
 
 /// The receipt.
-fn receipt<L: Ledger>(
-    hiring: &Hiring,
-    closing: Closing,
-    checked: &Checked,
-    params: &Params,
-    steps: &mut Steps<L>,
-) -> Receipt
+fn receipt(hiring: &Hiring, closing: Closing, checked: &Checked, params: &Params) -> Receipt
     requires whole { IsWhole hiring.now }
     requires ticks { hiring.now.whole.ticks ≤ longest_trip }
     requires finish { IsSecond closing.finish }
@@ -78,8 +70,8 @@ fn receipt<L: Ledger>(
 {
     let (step, _) = checked.step();
     let fee = hiring.fees.amounts;
-    let start = stamp(params, hiring.started, steps);
-    let finish = stamp(params, closing.finish, steps);
+    let start = stamp(params, hiring.started);
+    let finish = stamp(params, closing.finish);
     let hired_mm = millimetres(params.constant, hiring.whole.pulses);
     let shown = steps_shown(checked, params, fee, hiring.whole.charge);
     let fare = fare_shown(fee, step, shown);
@@ -102,11 +94,11 @@ fn receipt<L: Ledger>(
 }
 
 /// The local date and time at a second.
-fn stamp<L: Ledger>(params: &Params, second: u64, steps: &mut Steps<L>) -> Stamp
+fn stamp(params: &Params, second: u64) -> Stamp
     requires { IsSecond second }
     ensures { (s : Setting) → s.offsets ≡ params.now.offsets → result ≡ stamp_at s second }
 {
-    let local = civil(&params.offsets, second, steps);
+    let local = local_time(&params.offsets, second);
     Stamp {
         year: local.year,
         month: local.month,

@@ -2,7 +2,7 @@ use Rattle.verify_bench.{specs.{Common.{receipt_of}, Settings.{setting_under}}, 
 use Rattle.verify_bench.proofs.telling.explained.Goals as goal
 
 pub returns : goal.returns
-returns g c hired trip is =
+returns c hired trip is =
     let s = setting_under c.args.checked.now c.args.params.now in
     let groups = rw (c.rates.ensures.value.numbers, c.as_slice.ensures.value) at c.in_ok-groups.ensures in
     taken_apart s hired c.args.hiring.now trip c.receipt-receipt.result

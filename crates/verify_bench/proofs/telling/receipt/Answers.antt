@@ -5,7 +5,7 @@ use Rattle.verify_bench.{specs.{Common.{Sums, amounts_of}, Settings.{setting_und
 use Rattle.verify_bench.proofs.telling.receipt.Goals as goal
 
 pub returns : goal.returns
-returns g c hired trip is =
+returns c hired trip is =
     let s = setting_under c.args.checked.now c.args.params.now in
     let start : c.stamp-start.result ≡ stamp_at s trip.started = rw (c.stamp-start.ensures s refl, is.started) refl in
     let finish : c.stamp-finish.result ≡ stamp_at s c.args.closing.finish = c.stamp-finish.ensures s refl in

@@ -4,7 +4,7 @@ use Rattle.verify_bench.specs.{Common.{Meter, SavedState, closed}, Settings.{set
 use Rattle.verify_bench.proofs.bench_meter.BenchMeter.abort.Goals as goal
 
 pub returns-clause-moves : goal.returns-clause-moves
-returns-clause-moves g c trip is m hired stands =
+returns-clause-moves c trip is m hired stands =
     let s = setting_under c.args.checked.now c.args.params.now in
     let a = c.args.found.now.items in
     let b = c.close.new.found.items in

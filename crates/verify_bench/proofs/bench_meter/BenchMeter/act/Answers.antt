@@ -5,7 +5,7 @@ use Rattle.taxi_units.specs.declared.event.Key.TheVariants as keys
 use Rattle.verify_bench.proofs.bench_meter.BenchMeter.act.Goals as goal
 
 pub returns-in-Hire-ForHire-clause-moves : goal.returns-in-Hire-ForHire-clause-moves
-returns-in-Hire-ForHire-clause-moves g c m hired stands =
+returns-in-Hire-ForHire-clause-moves c m hired stands =
     let s = setting_under c.args.checked.now c.args.params.now in
     let list = c.args.found.now.items in
     acts_by s hired (context_now s m) m.trip list list c.hire.new.self m c.args.key keys.Hire ForHire
@@ -13,7 +13,7 @@ returns-in-Hire-ForHire-clause-moves g c m hired stands =
     (c.hire.ensures.moves m.trip list m hired stands)
 
 pub returns-in-Position-ForHire-clause-moves : goal.returns-in-Position-ForHire-clause-moves
-returns-in-Position-ForHire-clause-moves g c m hired stands =
+returns-in-Position-ForHire-clause-moves c m hired stands =
     let s = setting_under c.args.checked.now c.args.params.now in
     let list = c.args.found.now.items in
     let at : (c.args.self.now.operating ≡ ForHire) ⊎ (c.args.self.now.operating ≡ Hired) = search rules in
@@ -23,7 +23,7 @@ returns-in-Position-ForHire-clause-moves g c m hired stands =
     c.in-Position-ForHire.is-0 stands.operating at moves moves
 
 pub returns-in-Zone-ForHire-clause-moves : goal.returns-in-Zone-ForHire-clause-moves
-returns-in-Zone-ForHire-clause-moves g c m hired stands =
+returns-in-Zone-ForHire-clause-moves c m hired stands =
     let s = setting_under c.args.checked.now c.args.params.now in
     let list = c.args.found.now.items in
     let at : (c.args.self.now.operating ≡ ForHire) ⊎ (c.args.self.now.operating ≡ Hired) = search rules in
@@ -33,7 +33,7 @@ returns-in-Zone-ForHire-clause-moves g c m hired stands =
     c.in-Zone-ForHire.is-0 stands.operating at moves moves
 
 pub returns-in-Extra-Hired-clause-moves : goal.returns-in-Extra-Hired-clause-moves
-returns-in-Extra-Hired-clause-moves g c =
+returns-in-Extra-Hired-clause-moves c =
     let s = setting_under c.args.checked.now c.args.params.now in
     let list = c.args.found.now.items in
     let at : (c.args.self.now.operating ≡ Hired) ⊎ (c.args.self.now.operating ≡ Stopped) = search rules in
@@ -45,28 +45,32 @@ returns-in-Extra-Hired-clause-moves g c =
     c.add_supplement.ensures.moves
 
 pub returns-in_ok-close-in-Clear-Stopped-clause-moves : goal.returns-in_ok-close-in-Clear-Stopped-clause-moves
-returns-in_ok-close-in-Clear-Stopped-clause-moves g c = grind (arith, common_steps)
+returns-in_ok-close-in-Clear-Stopped-clause-moves c m hired stands =
+    let s = setting_under c.args.checked.now c.args.params.now in
+    acts_by s hired (context_now s m) m.trip c.args.found.now.items c.close.new.found.items c.close.new.self m
+    c.args.key keys.Clear Stopped c.in-Clear-Stopped.is-0 (sym stands.operating ∙ c.in-Clear-Stopped.is-1)
+    (rw stands.clock at (c.in_ok-close-in-Clear-Stopped.ensures.moves m hired stands))
 
 pub returns-in_default-2 : goal.returns-in_default-2
-returns-in_default-2 g c = grind (arith, common_steps)
+returns-in_default-2 c = grind (arith, common_steps)
 
 pub returns-in_default-3 : goal.returns-in_default-3
-returns-in_default-3 g c = grind (arith, common_steps)
+returns-in_default-3 c = grind (arith, common_steps)
 
 pub returns-in_default-4-clause-moves : goal.returns-in_default-4-clause-moves
-returns-in_default-4-clause-moves g c = grind (arith, common_steps)
+returns-in_default-4-clause-moves c = grind (arith, common_steps)
 
 pub returns-in_default-5-clause-moves : goal.returns-in_default-5-clause-moves
-returns-in_default-5-clause-moves g c = grind (arith, common_steps)
+returns-in_default-5-clause-moves c = grind (arith, common_steps)
 
 pub returns-in_default-6-clause-moves : goal.returns-in_default-6-clause-moves
-returns-in_default-6-clause-moves g c = grind (arith, common_steps)
+returns-in_default-6-clause-moves c = grind (arith, common_steps)
 
 pub returns-in_default-clause-moves : goal.returns-in_default-clause-moves
-returns-in_default-clause-moves g c = grind (arith, common_steps)
+returns-in_default-clause-moves c = grind (arith, common_steps)
 
 pub returns-in-Hire-Stopped-clause-moves : goal.returns-in-Hire-Stopped-clause-moves
-returns-in-Hire-Stopped-clause-moves g c = grind (arith, common_steps)
+returns-in-Hire-Stopped-clause-moves c = grind (arith, common_steps)
 
 pub returns-in-Stop-Hired-clause-moves : goal.returns-in-Stop-Hired-clause-moves
-returns-in-Stop-Hired-clause-moves g c = grind (arith, common_steps)
+returns-in-Stop-Hired-clause-moves c = grind (arith, common_steps)

@@ -3,7 +3,7 @@ use Rattle.verify_bench.{specs.Settings.{setting_under}, proofs.Benches.{closes_
 use Rattle.verify_bench.proofs.bench_meter.BenchMeter.close.Goals as goal
 
 pub returns-in_ok-explained-in-Some-clause-moves : goal.returns-in_ok-explained-in-Some-clause-moves
-returns-in_ok-explained-in-Some-clause-moves g c =
+returns-in_ok-explained-in-Some-clause-moves c =
     let s = setting_under c.args.checked.now c.args.params.now in
     let pushed : OnOk c.map_err.result
     (c.push.new.self.items ≡ c.args.found.now.items ++ c.in_ok-explained-in-Some.explained ∷ []) = search rules in

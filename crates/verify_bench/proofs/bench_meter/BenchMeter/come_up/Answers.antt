@@ -3,7 +3,7 @@ use Rattle.verify_bench.{specs.Settings.{setting_under}, proofs.Benches.{moves_s
 use Rattle.verify_bench.proofs.bench_meter.BenchMeter.come_up.Goals as goal
 
 pub returns-clause-moves : goal.returns-clause-moves
-returns-clause-moves g c =
+returns-clause-moves c =
     let s = setting_under c.args.checked.now c.args.params.now in
     let a = c.args.found.now.items in
     let b = c.take_hold.new.found.items in

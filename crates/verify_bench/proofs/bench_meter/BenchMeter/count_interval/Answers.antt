@@ -4,7 +4,7 @@ use Rattle.verify_bench.proofs.Benches.{counted_hired}
 use Rattle.verify_bench.proofs.bench_meter.BenchMeter.count_interval.Goals as goal
 
 pub returns-in_ok-add_hired-in-Hired-clause-stands : goal.returns-in_ok-add_hired-in-Hired-clause-stands
-returns-in_ok-add_hired-in-Hired-clause-stands g c m hired stands =
+returns-in_ok-add_hired-in-Hired-clause-stands c m hired stands =
     let s = setting_under c.args.checked.now c.args.params.now in
     let x : c.context-x.result ≡ context_of s m =
     c.context-x.ensures m hired stands ∙ ap (λ (second : ℕ). context_on s (local_at s second) m) stands.began in

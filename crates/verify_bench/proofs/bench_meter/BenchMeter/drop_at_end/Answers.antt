@@ -3,7 +3,7 @@ use Rattle.verify_bench.{specs.{Common.{Off}, Settings.{setting_under}}, proofs.
 use Rattle.verify_bench.proofs.bench_meter.BenchMeter.drop_at_end.Goals as goal
 
 pub returns-in-ForHire : goal.returns-in-ForHire
-returns-in-ForHire g c =
+returns-in-ForHire c =
     let s = setting_under c.args.checked.now c.args.params.now in
     let on : c.args.self.now.operating ≢ Off = search rules in
     on_ok_weaker c.go_down.result (λ goes m hired stands.

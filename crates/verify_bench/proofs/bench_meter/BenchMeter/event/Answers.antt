@@ -4,7 +4,7 @@ use Rattle.verify_bench.specs.{Common.{Event, Off, Operating, Up, step, step_in}
 use Rattle.verify_bench.proofs.bench_meter.BenchMeter.event.Goals as goal
 
 pub returns-in-Up-clause-moves : goal.returns-in-Up-clause-moves
-returns-in-Up-clause-moves g c =
+returns-in-Up-clause-moves c =
     let s = setting_under c.args.checked.now c.args.params.now in
     let a = c.args.found.now.items in
     let b = c.come_up.new.found.items in
@@ -17,7 +17,7 @@ returns-in-Up-clause-moves g c =
     c.come_up.ensures.moves
 
 pub returns-in-ForHire-clause-moves : goal.returns-in-ForHire-clause-moves
-returns-in-ForHire-clause-moves g c =
+returns-in-ForHire-clause-moves c =
     let s = setting_under c.args.checked.now c.args.params.now in
     let on : c.args.self.now.operating ≢ Off = search rules in
     on_ok_weaker c.powered_event.result (λ goes m hired stands.

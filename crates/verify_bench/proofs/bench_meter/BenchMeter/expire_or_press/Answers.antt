@@ -5,7 +5,7 @@ use Rattle.verify_bench.proofs.{BenchSupply.{no_ticks, still_hired}, Benches.{st
 use Rattle.verify_bench.proofs.bench_meter.BenchMeter.expire_or_press.Goals as goal
 
 pub returns-then-ticks-ge-LONGEST_TRIP-clause-moves : goal.returns-then-ticks-ge-LONGEST_TRIP-clause-moves
-returns-then-ticks-ge-LONGEST_TRIP-clause-moves g c =
+returns-then-ticks-ge-LONGEST_TRIP-clause-moves c =
     let s = setting_under c.args.checked.now c.args.params.now in
     on_ok_weaker c.expire.result (λ goes m hired stands.
     let same = c.ticks.ensures.stands s m hired stands in
@@ -19,7 +19,7 @@ returns-then-ticks-ge-LONGEST_TRIP-clause-moves g c =
     c.expire.ensures.moves
 
 pub returns-in-Some-clause-moves : goal.returns-in-Some-clause-moves
-returns-in-Some-clause-moves g c =
+returns-in-Some-clause-moves c =
     let s = setting_under c.args.checked.now c.args.params.now in
     on_ok_weaker c.act.result (λ goes m hired stands.
     let same = c.ticks.ensures.stands s m hired stands in

@@ -5,7 +5,7 @@ use Rattle.verify_bench.{specs.Settings.{setting_under}, proofs.Benches.{hires_y
 use Rattle.verify_bench.proofs.bench_meter.BenchMeter.hire.Goals as goal
 
 pub returns-clause-moves : goal.returns-clause-moves
-returns-clause-moves g c trip found m before stands =
+returns-clause-moves c trip found m before stands =
     let s = setting_under c.args.checked.now c.args.params.now in
     let x : c.context-x.result ≡ context_now s m =
     c.context-x.ensures m before stands ∙ ap (λ (second : ℕ). context_on s (local_at s second) m) stands.clock in

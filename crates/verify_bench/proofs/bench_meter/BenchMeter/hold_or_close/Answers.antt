@@ -4,7 +4,7 @@ use Rattle.verify_bench.{specs.Common.{MeterTrip, held_or_closed}, proofs.BenchS
 use Rattle.verify_bench.proofs.bench_meter.BenchMeter.hold_or_close.Goals as goal
 
 pub returns-then-self-lt-LAST_NUMBER-clause-moves : goal.returns-then-self-lt-LAST_NUMBER-clause-moves
-returns-then-self-lt-LAST_NUMBER-clause-moves g c m hired stands =
+returns-then-self-lt-LAST_NUMBER-clause-moves c m hired stands =
     let s = setting_under c.args.checked.now c.args.params.now in
     let list = c.args.found.now.items in
     let trip = trip_beside s hired c.in-Some.field-0 c.args.self.now.hiring m.trip c.in-Some.is stands.trips in
@@ -14,7 +14,7 @@ returns-then-self-lt-LAST_NUMBER-clause-moves g c m hired stands =
     (c.hold.ensures.moves s trip.0 m.trip list m hired hired stands))
 
 pub returns-else-self-lt-LAST_NUMBER-clause-moves : goal.returns-else-self-lt-LAST_NUMBER-clause-moves
-returns-else-self-lt-LAST_NUMBER-clause-moves g c =
+returns-else-self-lt-LAST_NUMBER-clause-moves c =
     let s = setting_under c.args.checked.now c.args.params.now in
     on_ok_weaker c.close.result (λ goes m hired stands.
     let trip = trip_beside s hired c.in-Some.field-0 c.args.self.now.hiring m.trip c.in-Some.is stands.trips in
@@ -25,6 +25,6 @@ returns-else-self-lt-LAST_NUMBER-clause-moves g c =
     c.close.ensures.moves
 
 pub returns-in-None-clause-moves : goal.returns-in-None-clause-moves
-returns-in-None-clause-moves g c m hired stands =
+returns-in-None-clause-moves c m hired stands =
     c.enter_roaming_if_any.ensures.moves (setting_under c.args.checked.now c.args.params.now) m.trip
     c.args.found.now.items m hired hired stands

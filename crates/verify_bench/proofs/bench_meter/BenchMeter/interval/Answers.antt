@@ -4,12 +4,12 @@ use Rattle.verify_bench.{specs.Settings.{setting_under}, proofs.Carried.{carries
 use Rattle.verify_bench.proofs.bench_meter.BenchMeter.interval.Goals as goal
 
 pub returns-then-pulses-eq0-clause-carries : goal.returns-then-pulses-eq0-clause-carries
-returns-then-pulses-eq0-clause-carries g c =
+returns-then-pulses-eq0-clause-carries c =
     on_ok_weaker c.carry.result (λ goes. rw (interval_none c.args.pulses c.if-pulses-eq0.true) goes)
     c.carry.ensures.carries
 
 pub returns-clause-carries : goal.returns-clause-carries
-returns-clause-carries g c =
+returns-clause-carries c =
     let s = setting_under c.args.checked.now c.args.params.now in
     on_ok_weaker c.carry-3.result (λ goes. rw (interval_some c.args.pulses c.if-pulses-eq0.false)
     (carries_then s (Pulses c.args.pulses ∷ []) (Tick ∷ []) c.args.self.now c.carry-2.new.self c.carry-3.new.self

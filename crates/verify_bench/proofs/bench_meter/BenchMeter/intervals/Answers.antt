@@ -4,13 +4,13 @@ use Rattle.verify_bench.{specs.Settings.{setting_under}, proofs.Carried.{carries
 use Rattle.verify_bench.proofs.bench_meter.BenchMeter.intervals.Goals as goal
 
 pub loop-place-init : goal.loop-place-init
-loop-place-init g c = record {
+loop-place-init c = record {
   carries = carries_none (setting_under c.args.checked.now c.args.params.now) c.args.self.now c.args.found.now.items;
   sound = c.requires.sound;
 }
 
 pub loop-place-preserved : goal.loop-place-preserved
-loop-place-preserved g c =
+loop-place-preserved c =
     let s = setting_under c.args.checked.now c.args.params.now in
     let done = c.loop-place in
     record {
@@ -22,6 +22,6 @@ loop-place-preserved g c =
     }
 
 pub returns-clause-carries : goal.returns-clause-carries
-returns-clause-carries g c =
+returns-clause-carries c =
     let all : c.loop-place.place ≡ c.args.count = omega arith in
     rw all at c.loop-place.invariant.carries

@@ -3,7 +3,7 @@ use Rattle.verify_bench.specs.{Bench.{Moves}, Common.{Event, powered_step}, Trip
 use Rattle.verify_bench.proofs.bench_meter.BenchMeter.powered_event.Goals as goal
 
 pub returns-in-Down-clause-moves : goal.returns-in-Down-clause-moves
-returns-in-Down-clause-moves g c =
+returns-in-Down-clause-moves c =
     let s = setting_under c.args.checked.now c.args.params.now in
     on_ok_weaker c.go_down.result (λ goes m hired stands.
     subst (λ (e : Event). Moves s hired (hired_at s e m hired) (trip_at s e m) c.args.found.now.items
@@ -11,7 +11,7 @@ returns-in-Down-clause-moves g c =
     c.go_down.ensures.moves
 
 pub returns-in-Tick-clause-moves : goal.returns-in-Tick-clause-moves
-returns-in-Tick-clause-moves g c =
+returns-in-Tick-clause-moves c =
     let s = setting_under c.args.checked.now c.args.params.now in
     on_ok_weaker c.tick.result (λ goes m hired stands.
     subst (λ (e : Event). Moves s hired (hired_at s e m hired) (trip_at s e m) c.args.found.now.items
@@ -19,7 +19,7 @@ returns-in-Tick-clause-moves g c =
     c.tick.ensures.moves
 
 pub returns-in-Pulses-clause-moves : goal.returns-in-Pulses-clause-moves
-returns-in-Pulses-clause-moves g c m hired stands =
+returns-in-Pulses-clause-moves c m hired stands =
     let s = setting_under c.args.checked.now c.args.params.now in
     let list = c.args.found.now.items in
     subst (λ (e : Event). Moves s hired (hired_at s e m hired) (trip_at s e m) list list c.take_pulses.new.self
@@ -27,7 +27,7 @@ returns-in-Pulses-clause-moves g c m hired stands =
     (c.take_pulses.ensures.moves s m.trip list m hired hired stands)
 
 pub returns-in-Clock-clause-moves : goal.returns-in-Clock-clause-moves
-returns-in-Clock-clause-moves g c m hired stands =
+returns-in-Clock-clause-moves c m hired stands =
     let s = setting_under c.args.checked.now c.args.params.now in
     let list = c.args.found.now.items in
     subst (λ (e : Event). Moves s hired (hired_at s e m hired) (trip_at s e m) list list c.read_clock.new.self
@@ -35,7 +35,7 @@ returns-in-Clock-clause-moves g c m hired stands =
     (c.read_clock.ensures.moves s m.trip list m hired hired stands)
 
 pub returns-in-Key-clause-moves : goal.returns-in-Key-clause-moves
-returns-in-Key-clause-moves g c m hired stands =
+returns-in-Key-clause-moves c m hired stands =
     let s = setting_under c.args.checked.now c.args.params.now in
     let list = c.args.found.now.items in
     subst (λ (e : Event). Moves s hired (hired_at s e m hired) (trip_at s e m) list list c.latch_key.new.self

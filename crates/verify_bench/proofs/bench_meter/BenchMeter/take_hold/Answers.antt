@@ -5,11 +5,11 @@ use Rattle.verify_bench.{specs.Settings.{setting_under}, proofs.BenchSupply.{hol
 use Rattle.verify_bench.proofs.bench_meter.BenchMeter.take_hold.Goals as goal
 
 pub abort-requires-clause-saved : goal.abort-requires-clause-saved
-abort-requires-clause-saved g c =
+abort-requires-clause-saved c =
     saved_is_a_second c.args.self.now.held c.in-Some.held c.in-Some.is c.requires.sound.held
 
 pub returns-then-is_within-clause-moves : goal.returns-then-is_within-clause-moves
-returns-then-is_within-clause-moves g c m hired stands =
+returns-then-is_within-clause-moves c m hired stands =
     let s = setting_under c.args.checked.now c.args.params.now in
     let list = c.args.found.now.items in
     let second = c.args.second in
@@ -21,7 +21,7 @@ returns-then-is_within-clause-moves g c m hired stands =
     (rw inside (c.resume.ensures.moves s hold.0 hold.2 m.trip list (waking second m) hired hired stands))
 
 pub returns-in_ok-abort-in-Some-clause-moves : goal.returns-in_ok-abort-in-Some-clause-moves
-returns-in_ok-abort-in-Some-clause-moves g c m hired stands =
+returns-in_ok-abort-in-Some-clause-moves c m hired stands =
     let s = setting_under c.args.checked.now c.args.params.now in
     let second = c.args.second in
     let hold = hold_beside m.durable.hold c.in-Some.held (sym c.in-Some.is ∙ stands.held) in
@@ -33,7 +33,7 @@ returns-in_ok-abort-in-Some-clause-moves g c m hired stands =
     (rw outside (c.in_ok-abort-in-Some.ensures.moves hold.0 hold.2 (waking second m) hired stands))
 
 pub returns-in-None-clause-moves : goal.returns-in-None-clause-moves
-returns-in-None-clause-moves g c m hired stands =
+returns-in-None-clause-moves c m hired stands =
     let s = setting_under c.args.checked.now c.args.params.now in
     let list = c.args.found.now.items in
     let second = c.args.second in

@@ -5,7 +5,7 @@ use Rattle.verify_bench.proofs.Benches.{hired_after, moves_begun, moves_quietly,
 use Rattle.verify_bench.proofs.bench_meter.BenchMeter.tick.Goals as goal
 
 pub returns-clause-moves : goal.returns-clause-moves
-returns-clause-moves g c m hired stands =
+returns-clause-moves c m hired stands =
     let s = setting_under c.args.checked.now c.args.params.now in
     let a = c.args.found.now.items in
     let b = c.expire_or_press.new.found.items in

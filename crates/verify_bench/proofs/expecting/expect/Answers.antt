@@ -1,19 +1,19 @@
 use Rattle.std.proofs.{Common.{[], ◌+◌, ◌≡◌, arith, drop, flat_map, length}, Math.Seq.{drop-length}}
 use Rattle.verify_bench.specs.{Common.{run_events}, ExpectedReceipts.{expected_of}, Settings.{setting_under}}
 use Rattle.verify_bench.proofs.{Carried.{events_next, expected_first}, ShortExplanations.{carried_short, ended_short}}
-use Rattle.verify_bench.proofs.expecting.expect_counted.Goals as goal
+use Rattle.verify_bench.proofs.expecting.expect.Goals as goal
 
 pub loop-run-init : goal.loop-run-init
-loop-run-init g c =
-    let s = setting_under c.args.checked.now c.args.params.now in
+loop-run-init c =
+    let s = setting_under c.args.checked.now c.args.seal.now.params in
     rw c.new-found.ensures.items (record {
       amid = expected_first s (flat_map run_events c.args.runs.now) c.new-meter.result (c.new-meter.ensures.stands s);
       sound = c.new-meter.ensures.sound;
     })
 
 pub loop-run-preserved : goal.loop-run-preserved
-loop-run-preserved g c =
-    let s = setting_under c.args.checked.now c.args.params.now in
+loop-run-preserved c =
+    let s = setting_under c.args.checked.now c.args.seal.now.params in
     let all = expected_of s (flat_map run_events c.args.runs.now) in
     let left = flat_map run_events (drop (c.loop-run.run-index + 1) c.args.runs.now) in
     let split = events_next c.args.runs.now c.loop-run.run-index _ (omega arith) in
@@ -26,8 +26,8 @@ loop-run-preserved g c =
     }
 
 pub returns : goal.returns
-returns g c =
-    let s = setting_under c.args.checked.now c.args.params.now in
+returns c =
+    let s = setting_under c.args.checked.now c.args.seal.now.params in
     let all = expected_of s (flat_map run_events c.args.runs.now) in
     let whole : c.loop-run.run-index ≡ length c.args.runs.now = omega arith in
     let none : drop c.loop-run.run-index c.args.runs.now ≡ [] = rw whole (drop-length c.args.runs.now) in

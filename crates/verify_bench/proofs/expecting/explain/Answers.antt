@@ -1,10 +1,10 @@
 use Rattle.std.proofs.{Common.{[], ◌+◌, ◌≡◌, arith, drop, flat_map, length}, Math.Seq.{drop-length}}
 use Rattle.verify_bench.specs.{Common.{run_events}, TripExplanations.{explanations_of}}
 use Rattle.verify_bench.{specs.Settings.{setting_under}, proofs.Carried.{amid_first, amid_next, carried_to_the_end}}
-use Rattle.verify_bench.proofs.expecting.explain_counted.Goals as goal
+use Rattle.verify_bench.proofs.expecting.explain.Goals as goal
 
 pub loop-run-init : goal.loop-run-init
-loop-run-init g c =
+loop-run-init c =
     let s = setting_under c.args.checked.now c.args.params.now in
     rw c.new-found.ensures.items (record {
       amid = amid_first s (flat_map run_events c.args.runs.now) c.new-meter.result (c.new-meter.ensures.stands s);
@@ -12,7 +12,7 @@ loop-run-init g c =
     })
 
 pub loop-run-preserved : goal.loop-run-preserved
-loop-run-preserved g c =
+loop-run-preserved c =
     let s = setting_under c.args.checked.now c.args.params.now in
     let all = explanations_of s (flat_map run_events c.args.runs.now) in
     let left = flat_map run_events (drop (c.loop-run.run-index + 1) c.args.runs.now) in
@@ -23,7 +23,7 @@ loop-run-preserved g c =
     }
 
 pub returns : goal.returns
-returns g c =
+returns c =
     let s = setting_under c.args.checked.now c.args.params.now in
     let all = explanations_of s (flat_map run_events c.args.runs.now) in
     let whole : c.loop-run.run-index ≡ length c.args.runs.now = omega arith in
