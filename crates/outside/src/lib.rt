@@ -29,6 +29,7 @@ pub use board::{Board, LOG_SIZE, STORE_SIZE};
 pub use fault::Failed;
 pub use file_device::{FileBoard, FileDevice, FileLog};
 pub use files::Files;
+pub use held_file::HeldFile;
 pub use host_files::HostFiles;
 pub use list_laws::{Places, a_slice_of_bytes, a_slice_that_is_not_touched, what_begins_a_text};
 pub use new_store::StoreNames;
@@ -40,22 +41,3 @@ pub use run_laws::{
     a_wider_kind,
 };
 pub use text::{RoomFault, TextFault, read_text, read_whole};
-
-#[cfg(test)]
-mod again_tests;
-#[cfg(test)]
-mod board_tests;
-#[cfg(test)]
-mod faulty_system;
-#[cfg(test)]
-mod faulty_tests;
-#[cfg(test)]
-mod file_tests;
-#[cfg(test)]
-mod log_tests;
-#[cfg(test)]
-mod name_tests;
-#[cfg(test)]
-mod program_tests;
-#[cfg(test)]
-mod tests;

@@ -1,6 +1,6 @@
 //! The words that a program is called with.
-use crate::program_words;
 use crate::tests::must;
+use outside::program_words;
 use std::env::FillError;
 use std::rt::Env;
 use std::test::Fail;

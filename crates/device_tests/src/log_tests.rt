@@ -3,7 +3,7 @@ ghost use Rattle.std.specs.Prelude.{◌<◌, ◌≡◌};
 
 use crate::file_tests::{Change, STORE, Sight, enter, is_seen, leave, make};
 use crate::tests::must;
-use crate::{Board, FileLog};
+use outside::{Board, FileLog};
 use std::marker::Brand;
 use std::sync::ledger::{Blank, Ledger};
 use std::test::Fail;

@@ -1,6 +1,8 @@
 //! For tests: a system of which chosen calls fail, and which checks the order of its calls.
+ghost use Rattle.std.specs.Prelude.{◌≤◌, IfOk};
+
 use crate::file_tests::{Change, make};
-use crate::held_file::HeldFile;
+use outside::HeldFile;
 use std::alloc::Allocator;
 use std::cell::Cell;
 use std::fmt::Display;
@@ -49,14 +51,18 @@ pub(crate) enum Fault {
 
     /// A new file gets this mode.
     Masked(u32),
+
+    /// A read or a write of a file moves one byte. Before each, this number of signals interrupts it, and after this
+    /// number of bytes the medium is full.
+    Stubborn(u8, u8),
 }
 
-/// What was done after a sync that failed.
+/// What was done again.
 #[derive(Clone, Copy, PartialEq, Eq)]
 pub(crate) enum Again {
     Nothing,
 
-    /// Bytes of the file were written, from the first place up to the end.
+    /// After a sync that failed, bytes of the file were written, from the first place up to the end.
     Bytes(u64, u64),
 
     /// A name was taken away in the folder whose sync failed.
@@ -64,6 +70,9 @@ pub(crate) enum Again {
 
     /// The file was synced once more.
     Synced,
+
+    /// Of stubborn files this number of reads and writes was asked for.
+    Moves(u32),
 }
 
 /// Which sync failed last.
@@ -101,6 +110,12 @@ pub(crate) struct Trial {
     failed: Cell<FailedSync>,
 
     again: Cell<Again>,
+
+    /// How many signals came since the last byte of a stubborn file.
+    signals: Cell<u8>,
+
+    /// How many bytes of stubborn files were moved.
+    bytes: Cell<u8>,
 }
 
 impl Trial {
@@ -115,6 +130,8 @@ impl Trial {
             was_made: Cell::new(false),
             failed: Cell::new(FailedSync::Neither),
             again: Cell::new(Again::Nothing),
+            signals: Cell::new(0),
+            bytes: Cell::new(0),
         }
     }
 
@@ -123,7 +140,7 @@ impl Trial {
         self.has_begun.set(true);
     }
 
-    /// What was done after a sync that failed.
+    /// What was done again.
     pub(crate) fn again(&self) -> Again {
         self.again.get()
     }
@@ -197,6 +214,46 @@ impl Trial {
         None
     }
 
+    /// How many of these bytes a read or a write moves: each, but of a stubborn file one at most.
+    fn moved(&self, count: usize) -> io::Result<usize>
+        ensures within { IfOk result (λ moved. moved ≤ count) }
+    {
+        for fault in self.faults {
+            if let Fault::Stubborn(signals, bytes) = fault {
+                if self.has_begun.get() {
+                    self.note_move();
+                    self.interrupt(*signals, *bytes)?;
+                    return Ok(count.min(1));
+                }
+            }
+        }
+        Ok(count)
+    }
+
+    /// Notes a read or a write of a stubborn file.
+    fn note_move(&self) {
+        let before = match self.again.get() {
+            Again::Moves(count) => count,
+            _ => 0,
+        };
+        self.again.set(Again::Moves(before.saturating_add(1)));
+    }
+
+    /// Fails if a signal is still to come before the next byte, or if the medium is full.
+    fn interrupt(&self, signals: u8, bytes: u8) -> io::Result<()> {
+        let (came, moved) = (self.signals.get(), self.bytes.get());
+        if came < signals {
+            self.signals.set(came + 1);
+            return Err(io::Error::from(ErrorKind::Interrupted));
+        }
+        if moved >= bytes {
+            return Err(io::Error::from(ErrorKind::StorageFull));
+        }
+        self.signals.set(0);
+        self.bytes.set(moved + 1);
+        Ok(())
+    }
+
     /// The name that is told in place of this one.
     fn led<'b>(&self, name: &'b str) -> &'b str {
         if !self.has_begun.get() {
@@ -250,6 +307,9 @@ const NAMES: [&str; 9] = [
     "/proc/self/fd/2",
 ];
 
+/// The name of files whose calls don't fail by their name.
+const ANOTHER: &str = "another";
+
 /// The name, if its calls may fail, or else one whose calls don't. The folder at the end of a link has a path that ends
 /// in its name.
 fn listed(name: &str) -> &'static str {
@@ -261,7 +321,7 @@ fn listed(name: &str) -> &'static str {
     if name.ends_with("/kept") {
         "kept"
     } else {
-        "another"
+        ANOTHER
     }
 }
 
@@ -303,7 +363,7 @@ impl<'a> HostSystem for FaultySystem<'a> {
         Ok(FaultyFile {
             file: self.opened(how, path)?,
             name,
-            is_synced: Cell::new(false),
+            is_synced: Cell::new(name == ANOTHER),
             rt: self.rt,
             trial: self.trial,
         })
@@ -432,7 +492,8 @@ impl<'a> Read for FaultyFile<'a> {
         if !self.is_synced.get() {
             return Err(disorder());
         }
-        self.file.read(buf)
+        let count = self.trial.moved(buf.len())?;
+        self.file.read(&mut buf[..count])
     }
 }
 
@@ -442,10 +503,11 @@ impl<'a> Write for FaultyFile<'a> {
         if self.trial.has_names.get() || buf.len() > PIECE {
             return Err(disorder());
         }
+        let count = self.trial.moved(buf.len())?;
         self.trial.has_bytes.set(true);
         let at = self.file.seek(SeekFrom::Current(0))?;
-        self.trial.note_write(at, buf.len());
-        self.file.write(buf)
+        self.trial.note_write(at, count);
+        self.file.write(&buf[..count])
     }
 
     fn flush(&mut self) -> io::Result<()> {

@@ -3,10 +3,9 @@
 use crate::faulty_system::{Again, Call, Fault};
 use crate::faulty_tests::Ask::{Print, Read, Sync, Write, WriteLast};
 use crate::faulty_tests::{
-    ALL, Case, FOUND_CASE, HARD, NEW_CASE, NO_CALL, NO_MAKING, ONE, UNTOUCHED, play_all,
+    ALL, Access, Case, FOUND_CASE, HARD, NEW_CASE, NO_CALL, NO_MAKING, ONE, UNTOUCHED, play_all,
 };
 use crate::file_tests::{Change, STORE, Sight, UNFINISHED};
-use crate::store_file::Access;
 use std::io::ErrorKind;
 use std::test::Fail;
 

@@ -2,12 +2,11 @@
 //! for each error that is tried.
 ghost use Rattle.std.specs.Prelude.{◌<◌, ◌≡◌};
 
-use crate::FileBoard;
 use crate::board_tests::{Asked, call};
 use crate::faulty_system::{Again, Call, Fault, FaultySystem, Trial};
 use crate::file_tests::{Change, STORE, Sight, UNFINISHED, enter, is_seen, leave, make};
-use crate::store_file::Access;
 use crate::tests::must;
+use outside::FileBoard;
 use std::io::ErrorKind;
 use std::marker::Brand;
 use std::sync::ledger::{Blank, Ledger};
@@ -26,12 +25,22 @@ pub(crate) enum Ask {
     /// A write of a 9 at the store's last place.
     WriteLast,
 
+    /// A write of 1, 2, 3, 4 at the front.
+    WriteFour,
+
     Sync,
 
     Print,
 }
 
 use Ask::{Print, Read, Sync, Write};
+
+/// What a device is made for.
+#[derive(Clone, Copy)]
+pub(crate) enum Access {
+    Read,
+    Write,
+}
 
 /// A case, named for what it shows.
 #[derive(Clone, Copy)]
@@ -50,7 +59,7 @@ pub(crate) struct Case {
     /// What is asked after that, and whether it is Ok.
     pub calls: &'static [(Ask, bool)],
 
-    /// What is done after a sync that failed.
+    /// What is done again.
     pub again: Again,
 
     pub left: &'static [Sight],
@@ -575,6 +584,7 @@ fn asked_by(ask: &Ask) -> Asked<'static> {
         Ask::Read(_) => Asked::Read(0),
         Ask::Write => Asked::Write(0, &[1]),
         Ask::WriteLast => Asked::Write(2047, &[9]),
+        Ask::WriteFour => Asked::Write(0, &[1, 2, 3, 4]),
         Ask::Sync => Asked::Sync,
         Ask::Print => Asked::Print(b"FOR HIRE\n"),
     }

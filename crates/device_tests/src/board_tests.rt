@@ -2,7 +2,7 @@
 ghost use Rattle.std.specs.Prelude.{◌<◌, ◌≡◌};
 
 use crate::tests::must;
-use crate::{Board, Failed, QuietBoard, STORE_SIZE};
+use outside::{Board, Failed, QuietBoard, STORE_SIZE};
 use std::marker::Brand;
 use std::sync::ledger::{Blank, Ledger};
 use std::test::Fail;
