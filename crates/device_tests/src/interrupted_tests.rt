@@ -12,6 +12,7 @@ use std::test::Fail;
 
 /// That store with four bytes written, or with three.
 const FOUR: &[Sight] = &[Sight::Holds(STORE, &[1, 2, 3, 4], 7, 2046, &[])];
+
 const THREE: &[Sight] = &[Sight::Holds(STORE, &[1, 2, 3], 7, 2047, &[])];
 
 /// Pieces of four bytes that are read and written.
@@ -133,7 +134,11 @@ fn read_words(
     let system = FaultySystem { rt, trial: &trial };
     let mut files = HostFiles::new(system, rt.alloc(), words.as_slice());
     must_read(&mut files, rows)?;
-    must(trial.again() == Again::Moves(moves), "moves", u64::from(moves))
+    must(
+        trial.again() == Again::Moves(moves),
+        "moves",
+        u64::from(moves),
+    )
 }
 
 /// Makes the reads of all rows in the working folder.
