@@ -1,6 +1,5 @@
 """How a wrong program is tried, and by what the prover says whether it is refused at the clause that it breaks: .ci/edits
 tells the rule."""
-import importlib
 import os
 import re
 import shutil
@@ -13,6 +12,7 @@ TOP = os.path.dirname(os.path.dirname(os.path.abspath(__file__)))
 sys.path.insert(0, f"{TOP}/tools")
 
 from heglorwy.imports import imports_of  # noqa: E402
+from heglorwy.kit import kit_of  # noqa: E402
 
 PARTS = ("src", "specs", "proofs")
 # What the prover says if it can't read a text: nothing is told of a clause then.
@@ -91,8 +91,7 @@ class Rooms:
     with the words of the kit's own `rt`: that asks for libraries that it can build upon, and `rt ci` leaves others."""
 
     def __init__(self, place, names):
-        sys.path.insert(0, os.path.dirname(os.path.realpath(shutil.which("rt") or sys.exit("edits: no rt in the PATH"))))
-        self.kit = importlib.import_module("rtlib")
+        self.kit = kit_of("edits")
         self.kit.guarded()
         self.place = place
         self.crates = {crate.name: crate for crate in self.kit.crates_below(TOP)}

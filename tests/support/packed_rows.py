@@ -11,10 +11,15 @@ PUT, LEFT = {"store": b"s", "log": b"l"}, {"store": b"S", "log": b"L"}
 # The statuses of calls in which the system fails: files that can't be read, outputs that take nothing.
 OF_THE_SYSTEM = {7, 8}
 MOST_TICKS = 1_000_000
+# Rows that take three to thirteen seconds each without a proof.
+SLOW = {
+    "drives.rows: many events of one line", "faults.rows: as many lines without a form as there can be",
+    "generated.rows: a thousand trips", "tables.rows: the most cells",
+}
 
 
 class LeftOut(Exception):
-    """A row of which a file has to be a real one, or of which a drive is so long that it takes minutes without a proof."""
+    """A row of which a file has to be a real one, or that takes long without a proof."""
 
 
 def ticks_of(drive):
@@ -43,6 +48,8 @@ class Packing:
         self.row, self.values, self.files = row, values, {}
 
     def packed(self, name):
+        if name in SLOW:
+            raise LeftOut
         acts = [self.call(*act[2:]) if act[0] == "call" else self.put(*act[2:]) for act in self.row.acts]
         acts = [act for act in acts if act]
         return text(name.encode()) + number(len(acts)) + b"".join(acts)
