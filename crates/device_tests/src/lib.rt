@@ -1,6 +1,6 @@
-//! Tests of the devices of `outside`: the real files and stores in folders of their own, the same over a system of which
-//! chosen calls fail, the quiet board, and the words of a program. They have a crate of their own, so that `outside` is
-//! proved once, and that the tests are proved beside other crates.
+//! Tests of the devices of `outside`: the real files and stores in folders of their own, the same over a system of
+//! which chosen calls fail, the quiet board, and the words of a program. They have a crate of their own, so that
+//! `outside` is proved once, and that the tests are proved beside other crates.
 #![tactic(auto)]
 
 #[cfg(test)]
