@@ -53,7 +53,7 @@ class Edit:
         parts = self.path.split("/")
         self.crate = parts[1]
         self.name = f"{self.crate}/{parts[-1].removesuffix('.edit')}"
-        self.pairs, self.breaks, self.may_break = [], [], []
+        self.pairs, self.breaks = [], []
         file = old = None
         with open(path, encoding="utf-8") as lines:
             for line in lines.read().split("\n"):
@@ -65,10 +65,9 @@ class Edit:
                     old = text
                 elif key == "new":
                     self.pairs.append((file, old, text))
-                elif key in ("breaks", "may-break"):
+                elif key == "breaks":
                     function, _, clause = text.partition(",")
-                    told = self.breaks if key == "breaks" else self.may_break
-                    told.append((function.strip(), Clause(*clause.split(" by "))))
+                    self.breaks.append((function.strip(), Clause(*clause.split(" by "))))
 
     def changes_more(self, texts):
         """Whether it changes a definition, or a constant of more than one use, on which other functions may stand."""
@@ -79,6 +78,8 @@ class Edit:
 
     def change(self, texts):
         """Puts the change into the texts of files, and says what is wrong with it."""
+        if not self.breaks:
+            return "it has no line `breaks: FUNCTION, CLAUSE`"
         for file, old, new in self.pairs:
             if file not in texts or texts[file].count(old) != 1:
                 return f"an `old:` text doesn't stand once in {file}"
