@@ -55,51 +55,24 @@ read_shares() {
   done
 }
 
-# How many functions are done of crates that are being proved, given their folders: rt keeps a file of each as it goes. It
-# keeps files of other things too, and those of earlier checks, so no more are counted than a crate has functions.
-proved_in() {
-  local folder count most all=0
-  for folder in "$@"; do
-    count=$(find "$folder/out/incremental" -name '*-proofs.*.Proof.oantt' ! -name '*.TheImpl.Proof.oantt' 2>/dev/null | wc -l)
-    most=${has[${folder##*/}]-0}
-    all=$((all + (count < most ? count : most)))
-  done
-  echo "$all"
-}
-
-# Takes note of the crates that are being proved now, of each its folder.
-now_proving() {
-  local folder
-  proving=("$@") proving_names='' proving_share=0 proving_functions=0
-  for folder in "$@"; do
-    proving_names+=${proving_names:+ and }${folder##*/}
-    proving_share=$((proving_share + ${share[${folder##*/}]-0}))
-    proving_functions=$((proving_functions + ${has[${folder##*/}]-0}))
-  done
-}
-
 # Shows how far the build is: the crates, functions, the time so far, and the time expected. What was proved in this run
-# says how fast it goes; before that a tenth of a minute is one. No fewer functions are shown than were shown before. On
-# a terminal it stays in one line.
+# says how fast it goes; before that a tenth of a minute is one. On a terminal it stays in one line.
 show_progress() {
-  local inside spent=$((SECONDS - began_building)) ahead=$left pace=600 from='' to='\n'
+  local pace=600 ahead from='' to='\n'
   [ ! -t 2 ] || from='\r\033[K' to=''
-  inside=$(proved_in "${proving[@]}")
-  [ $((done_functions + inside)) -le "$shown_functions" ] || shown_functions=$((done_functions + inside))
-  [ "$done_share" -lt 5 ] || pace=$((spent * 100 / done_share))
-  [ "$proving_functions" -eq 0 ] || ahead=$((left - proving_share * inside / proving_functions))
+  [ "$done_share" -lt 5 ] || pace=$(((last_done - began_building) * 100 / done_share))
+  ahead=$((left * pace / 100 - (SECONDS - last_done)))
   [ "$ahead" -gt 0 ] || ahead=1
   printf "$from%s: crate %s of %s, %s; %s of %s functions; %s so far, about %s min to go$to" "$name" "$place" "$all" \
-    "$proving_names" "$shown_functions" "$all_functions" "$((spent / 60)) min $((spent % 60)) s" $(((ahead * pace / 100 + 59) / 60)) >&2
+    "$proving" "$done_functions" "$all_functions" "$(((SECONDS - began_building) / 60)) min $(((SECONDS - began_building) % 60)) s" \
+    $(((ahead + 59) / 60)) >&2
 }
 
-# Counts a crate that was proved as done, given its folder.
+# Counts a crate that was proved as done. The table may be older than the crate.
 count_done() {
-  local functions inside
+  local functions
   functions=$(sed -n 's/^logic=proved functions=\([0-9]*\).*/\1/p' "$log/$crate" | tail -n 1)
-  # The table may be older than the crate. What was shown of it isn't taken back.
-  functions=${functions:-${has[$crate]-0}} inside=$(proved_in "$1")
-  [ "$functions" -ge "$inside" ] || functions=$inside
+  functions=${functions:-${has[$crate]-0}} last_done=$SECONDS
   all_functions=$((all_functions + functions - ${has[$crate]-0})) done_functions=$((done_functions + functions))
   left=$((left - ${share[$crate]-0})) done_share=$((done_share + ${share[$crate]-0}))
 }
@@ -125,9 +98,7 @@ say_wait() {
 # Proves and builds the program, and only the crates that it needs.
 build() {
   local crate place=0 all log began_building=$SECONDS commit waited=''
-  local left=0 all_functions=0 done_functions=0 shown_functions=0 done_share=0
-  local proving_names='' proving_share=0 proving_functions=0
-  local -a proving=()
+  local left=0 all_functions=0 done_functions=0 done_share=0 last_done=$SECONDS proving=''
   local -A share=() has=()
   has_kit || return 1
   log=$(mktemp -d) || return 1

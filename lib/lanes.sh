@@ -80,8 +80,8 @@ begin_in() {
   of[$1]=$next
   # The program itself is built by a run that needs no file.
   # shellcheck disable=SC2086
-  if [ "$crate" = "$program_crate" ]; then set -- "$1" run --jobs $jobs -- $sample; else set -- "$1" lib --jobs $jobs; fi
-  (cd "${folder[$1]}/$crate" && exec rt "${@:2}") </dev/null >"$log/$crate" 2>&1 &
+  if [ "$crate" = "$program_crate" ]; then set -- "$1" $sample; else set -- "$1"; fi
+  (cd "${folder[$1]}/$crate" && exec "$top/lib/prove" $jobs "${@:2}") </dev/null >"$log/$crate" 2>&1 &
   pid[$1]=$!
   note_lanes
   show_progress
@@ -89,9 +89,9 @@ begin_in() {
 
 # Takes note of what the lanes prove.
 note_lanes() {
-  local at places=()
-  for at in "${!folder[@]}"; do [ -z "${of[at]-}" ] || places+=("${folder[at]}/${of[at]}"); done
-  now_proving "${places[@]}"
+  local at
+  proving=''
+  for at in "${!folder[@]}"; do [ -z "${of[at]-}" ] || proving+=${proving:+ and }${of[at]}; done
 }
 
 # Ends with the crate of a lane whose process has ended.
@@ -99,7 +99,7 @@ end_in() {
   crate=${of[$1]} of[$1]=''
   wait "${pid[$1]}" || return 1
   made+="$crate "
-  count_done "${folder[$1]}/$crate"
+  count_done
   give "$crate" "$1"
   note_lanes
 }

@@ -42,7 +42,6 @@ const WHOLE: &[(usize, u64, Result<usize, RoomFault>)] = &[
     (0, 0, Err(RoomFault::TooLong)),
     (8, 2, Err(RoomFault::DeviceFailed)),
     (7, 2, Err(RoomFault::DeviceFailed)),
-    (6, 2, Err(RoomFault::DeviceFailed)),
 ];
 
 /// The answer of a reading into a buffer of this size.
@@ -90,5 +89,15 @@ fn reads_whole_texts(rt: HostRuntime) -> Result<(), Fail> {
     for (room, fail, want) in WHOLE {
         must_read_whole(rt.alloc(), *room, *fail, want)?;
     }
-    Ok(())
+    // A full buffer asks for one byte more, a text for all that fits and that byte.
+    let mut files = files_of(rt.alloc(), &["abcdefg"], &[2])?;
+    let is_failed = whole(&mut files, 6) == Err(RoomFault::DeviceFailed);
+    must_at(is_failed, "a buffer of", 6)?;
+    let mut files = files_of(rt.alloc(), &["abcdefg"], &[2])?;
+    let text = read_text(rt.alloc(), &mut files, 1, 6);
+    must_at(
+        length_of(text) == Some(Err(RoomFault::TooLong)),
+        "a text of",
+        6,
+    )
 }
