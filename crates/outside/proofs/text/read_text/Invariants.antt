@@ -1,5 +1,4 @@
-use Rattle.std.proofs.Common.{ℕ, ◌++◌, ◌-◌, ◌≡◌, ◌≢◌, ◌≤◌}
-use Rattle.std.specs.Prelude.{vec_capacity, vec_len}
+use Rattle.std.{specs.Prelude.{vec_capacity, vec_len}, proofs.Common.{ℕ, ◌++◌, ◌-◌, ◌≡◌, ◌≢◌, ◌≤◌}}
 use Rattle.outside.proofs.text.read_text.Given as goal
 
 abbrev pub invariant-loop-text : goal.invariant-loop-text
