@@ -76,7 +76,9 @@ begin_in() {
   local next
   next=$(next_in "$1")
   [ -n "$next" ] || return 0
-  crate=$next todo=${todo/ $next / } place=$((place + 1))
+  crate=$next todo=${todo/ $next / } place=$((place + 1)) jobs=1
+  # Beside nothing else it has a second job, if there is room.
+  [ ${#folder[@]} -gt 1 ] && [ -n "$(printf %s "${of[@]}")$(next_in 1)" ] || jobs=$most_jobs
   of[$1]=$next
   # The program itself is built by a run that needs no file.
   # shellcheck disable=SC2086
@@ -115,13 +117,12 @@ end_lanes() {
 
 # Proves and builds the crates in all lanes.
 build_in_lanes() {
-  local todo made=' ' second=0 at status=0 jobs=1 of=() pid=() folder=()
+  local todo made=' ' second=0 at status=0 jobs most_jobs=2 of=() pid=() folder=()
   crates=${crates//$'\n'/ }
   todo=" $(longest_first | sed 's/$/ /' | tr '\n' ' ') "
   trap 'end_lanes; exit 130' INT TERM
   make_lanes || status=1
-  # Each job reads all libraries, so two of one crate serve only if there is no other lane.
-  [ ${#folder[@]} -gt 1 ] || [ "$(nproc)" -lt 2 ] || [ "$(free_memory)" -lt 10 ] || jobs=2
+  if [ "$(nproc)" -lt 2 ] || [ "$(free_memory)" -lt 10 ]; then most_jobs=1; fi
   while [ $status -eq 0 ] && [ -n "${todo// /}$(printf %s "${of[@]}")" ]; do
     for at in "${!folder[@]}"; do [ -n "${of[at]-}" ] || begin_in "$at"; done
     sleep 1
