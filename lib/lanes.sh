@@ -58,13 +58,13 @@ longest_first() {
 }
 
 # The first crate that can be proved in a lane, if there is one: of the crates that the program needs those that it stands on
-# are made. The program itself is made in the checkout.
+# are made, or named in the second word. The program itself is made in the checkout.
 next_in() {
   local next below
   for next in $todo; do
     [ "$next" != "$program_crate" ] || [ "$1" -eq 0 ] || continue
     for below in $(sed -n "s/#.*//; s/^$next:\(.*\)/\1/p" "$top/crates.txt"); do
-      [[ " $crates " != *" $below "* ]] || [[ $made == *" $below "* ]] || continue 2
+      [[ " $crates " != *" $below "* ]] || [[ $made${2-} == *" $below "* ]] || continue 2
     done
     echo "$next"
     return
@@ -77,8 +77,8 @@ begin_in() {
   next=$(next_in "$1")
   [ -n "$next" ] || return 0
   crate=$next todo=${todo/ $next / } place=$((place + 1)) jobs=1
-  # Beside nothing else it has a second job, if there is room.
-  [ ${#folder[@]} -gt 1 ] && [ -n "$(printf %s "${of[@]}")$(next_in 1)" ] || jobs=$most_jobs
+  # It has a second job, if there is room, where no other crate could go on beside it, even once the other lanes have ended.
+  [ ${#folder[@]} -gt 1 ] && [ -n "$(next_in 1 "$(printf '%s ' "${of[@]}")")" ] || jobs=$most_jobs
   of[$1]=$next
   # The program itself is built by a run that needs no file.
   # shellcheck disable=SC2086

@@ -3,7 +3,7 @@ ghost use Rattle.std.specs.Prelude.{◌≤◌, IfOk};
 
 use crate::file_tests::{Change, make};
 use outside::HeldFile;
-use std::alloc::Allocator;
+use std::alloc::{Allocator, Global};
 use std::cell::Cell;
 use std::fmt::Display;
 use std::fs::{File, Metadata, OpenFile, OpenOptions, Permissions};
@@ -12,6 +12,7 @@ use std::io::{ErrorKind, Read, Seek, SeekFrom, Write};
 use std::os::unix::fs::PermissionsExt;
 use std::path::PathBuf;
 use std::rt::Files as HostSystem;
+use std::test::Fail;
 
 /// A call of the system, with the name that it is asked of.
 #[derive(Clone, Copy, PartialEq, Eq)]
@@ -119,9 +120,14 @@ pub(crate) struct Trial {
 }
 
 impl Trial {
-    /// A trial of these faults, which have not begun.
-    pub(crate) fn new(faults: &'static [Fault], kind: ErrorKind) -> Trial {
-        Trial {
+    /// A trial of these faults, which have not begun. It stays to the end of the process, so that no system and no file
+    /// has its lifetime.
+    pub(crate) fn new(
+        alloc: Global,
+        faults: &'static [Fault],
+        kind: ErrorKind,
+    ) -> Result<&'static Trial, Fail> {
+        let trial = Trial {
             faults,
             kind,
             has_begun: Cell::new(false),
@@ -132,6 +138,10 @@ impl Trial {
             again: Cell::new(Again::Nothing),
             signals: Cell::new(0),
             bytes: Cell::new(0),
+        };
+        match Box::new(alloc, trial) {
+            Ok(place) => Ok(&*Box::leak(place)),
+            Err(_) => Err(Fail::new("no memory for a trial")),
         }
     }
 
@@ -272,22 +282,22 @@ impl Trial {
 
 /// The system under a trial.
 #[derive(Clone, Copy)]
-pub(crate) struct FaultySystem<'a> {
+pub(crate) struct FaultySystem {
     pub rt: HostRuntime,
-    pub trial: &'a Trial,
+    pub trial: &'static Trial,
 }
 
 /// A file of such a system.
 #[derive(Drop)]
-pub(crate) struct FaultyFile<'a> {
+pub(crate) struct FaultyFile {
     file: File,
     name: &'static str,
     is_synced: Cell<bool>,
     rt: HostRuntime,
-    trial: &'a Trial,
+    trial: &'static Trial,
 }
 
-impl<'a> FaultyFile<'a> {
+impl FaultyFile {
     /// Fails if a fault says so of this call.
     fn pass(&self, call: Call) -> io::Result<()> {
         self.trial.pass(self.rt, call)
@@ -330,7 +340,7 @@ fn disorder() -> io::Error {
     io::Error::from(ErrorKind::Deadlock)
 }
 
-impl<'a> FaultySystem<'a> {
+impl FaultySystem {
     /// Fails if a fault says so of this call.
     fn pass(&self, call: Call) -> io::Result<()> {
         self.trial.pass(self.rt, call)
@@ -348,12 +358,12 @@ impl<'a> FaultySystem<'a> {
     }
 }
 
-impl<'a> HostSystem for FaultySystem<'a> {
-    type File = FaultyFile<'a>;
+impl HostSystem for FaultySystem {
+    type File = FaultyFile;
 
     type Dir = <HostRuntime as HostSystem>::Dir;
 
-    fn open_file(&self, how: &OpenOptions, path: &str) -> io::Result<FaultyFile<'a>> {
+    fn open_file(&self, how: &OpenOptions, path: &str) -> io::Result<FaultyFile> {
         let name = listed(path);
         self.pass(if how.asks_write() {
             Call::OpenToWrite(name)
@@ -433,7 +443,7 @@ impl<'a> HostSystem for FaultySystem<'a> {
 }
 
 /// Nothing is printed.
-impl<'a> Print for FaultySystem<'a> {
+impl Print for FaultySystem {
     fn print<D: Display + Drop>(&self, _value: D) -> io::Result<()> {
         Ok(())
     }
@@ -447,7 +457,7 @@ impl<'a> Print for FaultySystem<'a> {
     }
 }
 
-impl<'a> OpenFile for FaultyFile<'a> {
+impl OpenFile for FaultyFile {
     fn metadata(&self) -> io::Result<Metadata> {
         self.pass(Call::Length(self.name))?;
         self.file.metadata()
@@ -486,7 +496,7 @@ impl<'a> OpenFile for FaultyFile<'a> {
     }
 }
 
-impl<'a> Read for FaultyFile<'a> {
+impl Read for FaultyFile {
     fn read(&mut self, buf: &mut [u8]) -> io::Result<usize> {
         self.pass(Call::Read(self.name))?;
         if !self.is_synced.get() {
@@ -497,7 +507,7 @@ impl<'a> Read for FaultyFile<'a> {
     }
 }
 
-impl<'a> Write for FaultyFile<'a> {
+impl Write for FaultyFile {
     fn write(&mut self, buf: &[u8]) -> io::Result<usize> {
         self.pass(Call::Write(self.name))?;
         if self.trial.has_names.get() || buf.len() > PIECE {
@@ -515,19 +525,19 @@ impl<'a> Write for FaultyFile<'a> {
     }
 }
 
-impl<'a> Seek for FaultyFile<'a> {
+impl Seek for FaultyFile {
     fn seek(&mut self, to: SeekFrom) -> io::Result<u64> {
         self.file.seek(to)
     }
 }
 
-impl<'a> HeldFile for FaultyFile<'a> {
+impl HeldFile for FaultyFile {
     fn lock_alone(&self) -> io::Result<()> {
         self.pass(Call::Lock(self.name))?;
         self.file.lock_alone()
     }
 
-    fn above_streams(self) -> io::Result<FaultyFile<'a>> {
+    fn above_streams(self) -> io::Result<FaultyFile> {
         Ok(self)
     }
 }

@@ -591,11 +591,7 @@ fn asked_by(ask: &Ask) -> Asked<'static> {
 }
 
 /// Whether a call is Ok, and a read gives what it should.
-fn is_ok<'a, L: Ledger>(
-    device: &mut FileBoard<FaultySystem<'a>>,
-    ask: &Ask,
-    steps: &mut Steps<L>,
-) -> bool {
+fn is_ok<L: Ledger>(device: &mut FileBoard<FaultySystem>, ask: &Ask, steps: &mut Steps<L>) -> bool {
     match (call(device, &asked_by(ask), steps), ask) {
         (Ok(bytes), Ask::Read(want)) => bytes[0] == *want,
         (answer, _) => answer.is_ok(),
@@ -603,7 +599,7 @@ fn is_ok<'a, L: Ledger>(
 }
 
 /// The device of a case.
-fn device_of<'a>(case: &Case, system: FaultySystem<'a>) -> FileBoard<FaultySystem<'a>> {
+fn device_of(case: &Case, system: FaultySystem) -> FileBoard<FaultySystem> {
     let alloc = system.rt.alloc();
     match case.access {
         Access::Read => FileBoard::to_read(system, alloc),
@@ -623,8 +619,8 @@ fn must_come<L: Ledger>(
     requires one { 0 < blank.parts }
 {
     let mut steps: Steps<L> = Steps::open(blank);
-    let trial = Trial::new(case.faults, kind);
-    let mut device = device_of(case, FaultySystem { rt, trial: &trial });
+    let trial = Trial::new(rt.alloc(), case.faults, kind)?;
+    let mut device = device_of(case, FaultySystem { rt, trial });
     for ask in case.before {
         must(is_ok(&mut device, ask, &mut steps), case.name, 0)?;
     }

@@ -129,9 +129,9 @@ fn read_words(
     moves: u32,
 ) -> Result<(), Fail> {
     let words = words(rt)?;
-    let trial = Trial::new(faults, ErrorKind::Other);
+    let trial = Trial::new(rt.alloc(), faults, ErrorKind::Other)?;
     trial.begin();
-    let system = FaultySystem { rt, trial: &trial };
+    let system = FaultySystem { rt, trial };
     let mut files = HostFiles::new(system, rt.alloc(), words.as_slice());
     must_read(&mut files, rows)?;
     must(

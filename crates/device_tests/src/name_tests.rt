@@ -40,12 +40,9 @@ const MEANWHILE: &[Case] = &[
     },
 ];
 
-/// What a cut left of another user's store. For anybody but root it is enough that this process seems to belong to
-/// whoever has the root folder.
-const ANYBODYS: Case = Case {
+/// What a cut left of another user's store.
+const ANOTHERS: Case = Case {
     name: "a store in the making is another user's",
-    folder: &[Change::File(UNFINISHED, 9, 700)],
-    faults: &[Fault::Leads("/proc/self", "/")],
     calls: NO_MAKING,
     left: &[
         Sight::IsAbsent(STORE),
@@ -54,16 +51,21 @@ const ANYBODYS: Case = Case {
     ..NEW_CASE
 };
 
+/// For anybody but root it is enough that this process seems to belong to whoever has the root folder.
+const ANYBODYS: &[Case] = &[Case {
+    folder: &[Change::File(UNFINISHED, 9, 700)],
+    faults: &[Fault::Leads("/proc/self", "/")],
+    ..ANOTHERS
+}];
+
 /// The same for root, who can give a file away.
-const ROOTS: Case = Case {
-    name: "a store in the making is another user's, and this process is root's",
+const ROOTS: &[Case] = &[Case {
     folder: &[
         Change::File(UNFINISHED, 9, 700),
         Change::Give(UNFINISHED, 1234),
     ],
-    faults: &[],
-    ..ANYBODYS
-};
+    ..ANOTHERS
+}];
 
 /// The mode of a new store.
 const MODES: &[Case] = &[
@@ -300,7 +302,7 @@ fn names_that_another_takes_meanwhile(rt: HostRuntime) -> Result<(), Fail> {
 #[test]
 fn a_store_in_the_making_of_another_user(rt: HostRuntime) -> Result<(), Fail> {
     let is_root = fs::metadata(&rt, "/proc/self")?.uid() == fs::metadata(&rt, "/")?.uid();
-    play_all(rt, if is_root { &[ROOTS] } else { &[ANYBODYS] })
+    play_all(rt, if is_root { ROOTS } else { ANYBODYS })
 }
 
 #[test]

@@ -1,6 +1,7 @@
 //! Cuts of the power inside the calls of a filing, over logs in memory.
-use crate::log::keep_log_tests::{FILE, called, filing, must_at, receipts, shows};
+use crate::log::keep_log_tests::{FILE, called, filing, receipts, shows};
 use crate::log::memory_log::cut_of;
+use crate::meter::tests::{must_at, must_behind};
 use memory_devices::{Fill, MemoryLog};
 use std::alloc::Global;
 use std::test::Fail;
@@ -56,14 +57,6 @@ pub(crate) fn goes_on(
     let is_shown = shows(alloc, image, first, last)?;
     let is_whole = becomes(alloc, image, roll, whole)?;
     Ok(is_shown && is_whole)
-}
-
-/// Fails unless something holds behind a cut with this fill in the call with this number.
-fn must_behind(holds: bool, what: &str, call: u64, fill: Fill) -> Result<(), Fail> {
-    if !holds {
-        return Err(Fail::new(format_args!("{what} behind call {call}, {fill:?}")));
-    }
-    Ok(())
 }
 
 /// Fails unless the log goes on as `goes_on` says over what a cut with a fill leaves in this call.

@@ -1,9 +1,10 @@
 //! Each failure of the outside in turn, at each place of a filing, over rolls and logs in memory.
 use crate::log::cut_tests::{DONE, Left, OPENED, SHUT, WRITTEN, goes_on, must_go_on};
 use crate::log::keep_log_tests::{
-    FILE, SHOW, called, failing, filed, filed_to, filing, image_of, is_end, must, must_at, receipts,
+    FILE, SHOW, called, failing, filed, filed_to, filing, image_of, is_end, receipts,
 };
 use crate::log::receipt_tests::put_receipt;
+use crate::meter::tests::{must, must_at};
 use memory_devices::MemoryLog;
 use std::alloc::Global;
 use std::test::Fail;

@@ -4,6 +4,7 @@ ghost use Rattle.std.specs.Prelude.{◌<◌, ◌≡◌};
 
 use crate::log::memory_log::memory_log;
 use crate::log::receipt_tests::put_receipt;
+use crate::meter::tests::{must_at, strings};
 use log_commands::keep_log;
 use memory_devices::{MemoryFiles, MemoryLog};
 use std::alloc::Global;
@@ -37,15 +38,6 @@ fn counted<L: Ledger>(
 /// The status of a call of these words, under a counter of its own.
 pub(crate) fn status_of(words: &[String], files: &mut MemoryFiles, log: &mut MemoryLog) -> u8 {
     counted::<Brand>(Blank::new(1), words, files, log)
-}
-
-/// Words as a program has them.
-fn strings(alloc: Global, words: &[&str]) -> Result<Vec<String>, Fail> {
-    let mut texts = Vec::new(alloc);
-    for word in words {
-        texts.push(String::from_str(alloc, word)?)?;
-    }
-    Ok(texts)
 }
 
 /// The files of a call: that of word 1 has this roll, and the reads with these numbers fail.
@@ -89,22 +81,6 @@ pub(crate) fn called(
     roll: &[u8],
 ) -> Result<Ended, Fail> {
     failing(alloc, image, words, roll, &[], &[])
-}
-
-/// Fails unless something holds of the case with this name.
-pub(crate) fn must(holds: bool, what: &str, name: &str) -> Result<(), Fail> {
-    if !holds {
-        return Err(Fail::new(format_args!("{what}: {name}")));
-    }
-    Ok(())
-}
-
-/// Fails unless something holds of the case with this number.
-pub(crate) fn must_at(holds: bool, what: &str, number: u64) -> Result<(), Fail> {
-    if !holds {
-        return Err(Fail::new(format_args!("{what}: {number}")));
-    }
-    Ok(())
 }
 
 /// Whether a call has printed this text and ended with this status.

@@ -38,7 +38,7 @@ impl Stores {
     }
 
     /// Carries out the next act, and says whether all is as it has to be.
-    pub(crate) fn act(&mut self, rows: &mut Packed<'_>) -> Result<bool, Fail> {
+    pub(crate) fn act(&mut self, rows: &mut Packed) -> Result<bool, Fail> {
         let kind = rows.kind()?;
         if kind == b'l' || kind == b'L' || kind == b'h' {
             self.make_log()?;
@@ -58,7 +58,7 @@ impl Stores {
     }
 
     /// Calls the meter.
-    fn call_taxi(&mut self, rows: &mut Packed<'_>) -> Result<bool, Fail> {
+    fn call_taxi(&mut self, rows: &mut Packed) -> Result<bool, Fail> {
         let (words, mut files) = words_of(self.alloc, rows)?;
         let mut board = MemoryBoard::new(self.alloc, &self.totals, &[])?;
         let status = status_of(self.alloc, words.as_slice(), &mut files, &mut board);
@@ -81,7 +81,7 @@ impl Stores {
     }
 
     /// Calls the hiring log.
-    fn call_log(&mut self, rows: &mut Packed<'_>) -> Result<bool, Fail> {
+    fn call_log(&mut self, rows: &mut Packed) -> Result<bool, Fail> {
         let (words, mut files) = words_of(self.alloc, rows)?;
         let mut log = self.take_device()?;
         let printed_before = log.printed().len();
@@ -125,7 +125,7 @@ fn put_piece(store: &mut [u8], place: usize, piece: &[u8]) -> Result<(), Fail> {
 }
 
 /// Puts pieces into the bytes of a store, each at its place, and says that all is well.
-fn put(rows: &mut Packed<'_>, store: &mut [u8]) -> Result<bool, Fail> {
+fn put(rows: &mut Packed, store: &mut [u8]) -> Result<bool, Fail> {
     for _ in 0..rows.number()? {
         let place = rows.number()?;
         put_piece(store, place, rows.text()?)?;
@@ -134,7 +134,7 @@ fn put(rows: &mut Packed<'_>, store: &mut [u8]) -> Result<bool, Fail> {
 }
 
 /// Whether a store has these pieces over zeros.
-fn is_left(alloc: Global, rows: &mut Packed<'_>, store: &[u8]) -> Result<bool, Fail> {
+fn is_left(alloc: Global, rows: &mut Packed, store: &[u8]) -> Result<bool, Fail> {
     let mut wanted = vec![in alloc; 0u8; store.len()]?;
     put(rows, wanted.as_mut_slice())?;
     Ok(wanted.as_slice() == store)

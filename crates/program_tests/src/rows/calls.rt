@@ -8,7 +8,7 @@ use std::test::Fail;
 /// The words of a call, and the file of each.
 pub(crate) fn words_of(
     alloc: Global,
-    rows: &mut Packed<'_>,
+    rows: &mut Packed,
 ) -> Result<(Vec<String>, MemoryFiles), Fail> {
     let mut words = Vec::new(alloc);
     let mut files = MemoryFiles::new(alloc, &[])?;
@@ -23,7 +23,7 @@ pub(crate) fn words_of(
 }
 
 /// Whether a text is as the next of the rows has it: a piece, and some further ones, each behind any lines.
-pub(crate) fn is_wanted(rows: &mut Packed<'_>, printed: &[u8]) -> Result<bool, Fail> {
+pub(crate) fn is_wanted(rows: &mut Packed, printed: &[u8]) -> Result<bool, Fail> {
     let gaps = rows.number()?;
     let mut left = printed.strip_prefix(rows.text()?);
     for gap in 0..gaps {

@@ -2,15 +2,15 @@
 //! before it.
 use std::test::Fail;
 
-/// What is left of packed rows.
+/// What is left of packed rows. They stay to the end of the process, so that nothing has their lifetime.
 #[derive(Drop)]
-pub(crate) struct Packed<'a> {
-    left: &'a [u8],
+pub(crate) struct Packed {
+    left: &'static [u8],
 }
 
-impl<'a> Packed<'a> {
+impl Packed {
     /// Rows from their first byte on.
-    pub(crate) fn new(left: &'a [u8]) -> Packed<'a> {
+    pub(crate) fn new(left: &'static [u8]) -> Packed {
         Packed { left }
     }
 
@@ -20,7 +20,7 @@ impl<'a> Packed<'a> {
     }
 
     /// The next bytes, of this number.
-    fn bytes(&mut self, count: usize) -> Result<&'a [u8], Fail> {
+    fn bytes(&mut self, count: usize) -> Result<&'static [u8], Fail> {
         if count > self.left.len() {
             return Err(Fail::new("the rows end amid one"));
         }
@@ -46,7 +46,7 @@ impl<'a> Packed<'a> {
     }
 
     /// The next text.
-    pub(crate) fn text(&mut self) -> Result<&'a [u8], Fail> {
+    pub(crate) fn text(&mut self) -> Result<&'static [u8], Fail> {
         let count = self.number()?;
         self.bytes(count)
     }

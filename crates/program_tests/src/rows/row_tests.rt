@@ -22,7 +22,7 @@ const ROWS: &[u8] = b"\0\0\0\0\0\0\0\x03\
     \0\0\0\0\0\0\0\0\0\0\0\0\0\0\0\x09SEALED 1\n\0\0\0\0\0\0\0\x04\0\0\0\0\0\0\0\0";
 
 /// Carries a row out, with stores of its own, and says whether all was as it has to be.
-fn carry_out(alloc: Global, rows: &mut Packed<'_>) -> Result<bool, Fail> {
+fn carry_out(alloc: Global, rows: &mut Packed) -> Result<bool, Fail> {
     let mut stores = Stores::new(alloc);
     let mut is_well = true;
     for _ in 0..rows.number()? {
@@ -32,7 +32,7 @@ fn carry_out(alloc: Global, rows: &mut Packed<'_>) -> Result<bool, Fail> {
 }
 
 /// Carries out all rows, and names those that fail.
-fn tally(rt: HostRuntime, packed: &[u8]) -> Result<Tally, Fail> {
+fn tally(rt: HostRuntime, packed: &'static [u8]) -> Result<Tally, Fail> {
     let mut rows = Packed::new(packed);
     let (mut passed, mut failed) = (0u64, 0u64);
     for _ in 0..rows.number()? {
@@ -51,7 +51,7 @@ fn tally(rt: HostRuntime, packed: &[u8]) -> Result<Tally, Fail> {
 }
 
 /// The whole file `rows`, or nothing if there is none.
-fn file_of_rows(rt: HostRuntime, alloc: Global) -> Result<Vec<u8>, Fail> {
+fn file_of_rows(rt: HostRuntime, alloc: Global) -> Result<&'static [u8], Fail> {
     let mut names = Vec::new(alloc);
     names.push(String::from_str(alloc, "rows")?)?;
     let mut files = HostFiles::new(rt, alloc, names.as_slice());
@@ -63,7 +63,7 @@ fn file_of_rows(rt: HostRuntime, alloc: Global) -> Result<Vec<u8>, Fail> {
             Ok(count) => whole.extend_from_slice(&piece[..count])?,
         }
     }
-    Ok(whole)
+    Ok(&*whole.leak())
 }
 
 /// Each row of the file passes. If there is no file of rows, nothing is tried, and nothing is said.
@@ -73,7 +73,7 @@ fn rows_in_memory(rt: HostRuntime) -> Result<(), Fail> {
     if packed.is_empty() {
         return Ok(());
     }
-    let (passed, failed) = tally(rt, packed.as_slice())?;
+    let (passed, failed) = tally(rt, packed)?;
     println!(rt; "{passed} passed, {failed} failed")?;
     if failed > 0 {
         return Err(Fail::new("a row fails"));
