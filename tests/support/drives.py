@@ -17,6 +17,10 @@ TARIFFS = [
 ]
 
 
+BORDERS = [1772427600, 1772485200, 1772492400, 1798153200, 1774746000]  # six, 22:00, midnight, a holiday, summer time
+LONGEST = 8_640_000  # ticks of a trip
+
+
 def drive_of(seed, trips, start):
     """The lines of a generated drive that begins at a second."""
     state = seed
@@ -62,38 +66,35 @@ def drive_of(seed, trips, start):
     return lines
 
 
-def times_of(lines, hold):
-    """The ticks of each hiring that gets a receipt: from the tick behind its beginning to that of its end."""
-    place, latch, clock, ticks, times = "hire", None, 0, 0, []
-    held = None
-    for line in lines:
-        if line[0] == "C":
-            clock = line[1]
-        elif line[0] == "U":
-            if held is not None:
-                if line[1] <= clock + hold:
-                    place = held
-                else:
-                    times.append(ticks)
-                    place = "hire"
-            held, clock, latch = None, line[1], None
-        elif line[0] == "D":
-            held = None if place == "hire" else place
-        elif line[0] == "K" and line[1] in "HSC":
-            latch = line[1]
-        elif line[0] == "I":
-            for _ in range(line[2]):
-                if place != "hire":
-                    ticks += 1
-                if latch == "H" and place == "hire":
-                    place, ticks = "hired", 0
-                elif latch == "S" and place == "hired":
-                    place = "stopped"
-                elif latch == "C" and place == "stopped":
-                    place = "hire"
-                    times.append(ticks)
-                latch = None
-    return times
+def random_line(draw, clock, hold):
+    """A line of a drive, and the clock behind it."""
+    kind = draw.choice(["I"] * 7 + ["C"] * 3 + ["K"] * 6 + ["P", "T", "D", "U"])
+    if kind == "I":
+        count = draw.choice([1, 2, draw.randint(1, 90), draw.randint(1, 900)])
+        return f"I {draw.choice([0, 0, draw.randint(0, 20), draw.randint(0, 60), draw.randint(0, 2500)])} {count}", clock + count // 10
+    if kind in "CU":
+        later = clock + draw.choice([0, 0, 1, draw.randint(0, 90), hold, hold + 1, draw.randint(0, 4000), -draw.randint(0, 3000)])
+        return f"{kind} {later}", max(clock, later)
+    if kind == "K":
+        key = draw.choice(["H", "H", "S", "S", "C", "C", "P", "Z", "E", "E"])
+        return f"K {key}" + (f" {draw.choice([0, 1, 1, 2, 2, 3, 7])}" if key in "PZE" else ""), clock
+    return {"P": f"P {draw.choice([1, draw.randint(1, 50), draw.randint(1, 3000)])}"}.get(kind, kind), clock
+
+
+def random_drive(draw, is_long=False, hold=60):
+    """A drive of lines of all kinds, that begins near a border of time; a key is seldom without an interval behind it."""
+    clock = draw.choice(BORDERS) - draw.randint(0, 240)
+    lines = [f"U {clock}"]
+    for _ in range(draw.randint(40, 160)):
+        line, clock = random_line(draw, clock, hold)
+        lines += [f"P {draw.randint(1, 900)}"] * (line == "D" and draw.random() < 0.5) + [line]
+        if line[0] == "K" and draw.random() < 0.8:
+            lines.append(f"I {draw.choice([0, 3])} 1")
+        if line == "D" and draw.random() < 0.8:
+            lines.append(f"U {clock + draw.choice([0, 1, hold, hold + 1])}")
+    if is_long:
+        lines += [f"U {clock + hold}", "K H", "I 0 1", "K H", *[f"I {draw.randint(0, 3)} 36000"] * (LONGEST // 36_000), "K S", "I 0 5"]
+    return ("# a drive\r\n\n" + "\n".join(lines) + "\n").encode()
 
 
 def start_of(seed):
