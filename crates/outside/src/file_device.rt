@@ -7,41 +7,32 @@ use crate::failures::counted;
 use crate::fault::Failed;
 use crate::file_store::FileStore;
 use crate::held_file::HeldFile;
-use crate::new_store::StoreNames;
 use crate::printer::Printer;
+use crate::printing::print_whole;
 use crate::store_file::Access;
+use crate::store_names::{LOG, METER};
 use std::alloc::Global;
 use std::io;
 use std::marker::Model;
-use std::rt::Files as HostSystem;
+use std::rt::{Clock, Files as HostSystem};
 use std::sync::ledger::Ledger;
 use taxi_units::Steps;
-
-/// The names of the meter's store, in the working folder.
-const STORE_FILE: StoreNames = StoreNames {
-    store: "taxi.store",
-    unfinished: "taxi.store.new",
-};
-
-/// The names of the hiring log's store, in the working folder.
-const LOG_FILE: StoreNames = StoreNames {
-    store: "taxi.log",
-    unfinished: "taxi.log.new",
-};
 
 /// A store in a file of the working folder, of which the first `N` bytes are used, and the standard output. It tells
 /// neither what the file holds nor what was printed: that both behave as a board's should is trusted. The count of
 /// faults is the number of calls that failed, up to the last value of a `u64`. A call fails if the system answered an
 /// error, but for those that docs/STORE.md names as passed over, or if the device itself finds something wrong. A call
-/// that a signal interrupts is made again, a bounded number of times. All of it is this project's own.
+/// that a signal interrupts is made again, a bounded number of times, and an output that takes nothing is waited for, at
+/// most ten minutes. All of it is this project's own.
 ///
-/// - The first call, even a print, looks for the file, and for one under the name of a store in the making. If the
-///   standard output or the standard error is either, each call fails.
+/// - The first call, even a print, looks at the standard output and the standard error, and for the file. If one of them
+///   is the meter's store, the hiring log or one in the making, or a file of such a name in another folder, each call
+///   fails, and so if the system doesn't tell what they are.
 /// - A file that was found is opened at the first call of the store, and is locked from then on, even if it is only
 ///   read. If another has the lock, the call fails. A file that isn't plain, or that is shorter than the store, is
 ///   refused: nothing is ever written to it.
 /// - An opening syncs the file and its folder: at the end of a symbolic link, the file's own. A device to write removes
-///   the name of a store in the making if the store's own file has it.
+///   the name of a store in the making if it is a second one of the store's file, in the working folder or the file's own.
 /// - If there was no file, the store reads as zeros, and the first write makes it: whole, on the medium, for its owner
 ///   alone, and only then under its name. If another has made it since, each call of the store fails.
 /// - A device to read fails at each write. It opens even a file that may not be written; a device to write refuses that
@@ -53,7 +44,7 @@ const LOG_FILE: StoreNames = StoreNames {
 /// - After an opening, a making or a sync that failed, or if the file was found to be cut short, the device is lost:
 ///   each later call fails.
 #[derive(Drop)]
-pub struct FileDevice<R: HostSystem + Print + Drop, const N: usize>
+pub struct FileDevice<R: HostSystem + Print + Clock + Drop, const N: usize>
 where
     R::File: HeldFile,
 {
@@ -69,7 +60,7 @@ pub type FileBoard<R> = FileDevice<R, STORE_SIZE>;
 /// The hiring log's board of the system, whose store is the file `taxi.log`.
 pub type FileLog<R> = FileDevice<R, LOG_SIZE>;
 
-impl<R: HostSystem + Print + Drop, const N: usize> Model for FileDevice<R, N>
+impl<R: HostSystem + Print + Clock + Drop, const N: usize> Model for FileDevice<R, N>
 where
     R::File: HeldFile,
 {
@@ -78,19 +69,19 @@ where
     ghost view = { λ d. record { failed = d.failures; lost = is_lost d.store.state } };
 }
 
-impl<R: HostSystem + Print + Drop> FileDevice<R, STORE_SIZE>
+impl<R: HostSystem + Print + Clock + Drop> FileDevice<R, STORE_SIZE>
 where
     R::File: HeldFile,
 {
-    /// The board to read the meter's store: each write fails. It asks nothing of the system yet. Only an opening uses
-    /// the allocator, to find the folder of a file at the end of a symbolic link.
+    /// The board to read the meter's store: each write fails. It asks nothing of the system yet. Only the first call and
+    /// an opening use the allocator, for the paths of the outputs and of a file at the end of a symbolic link.
     pub fn to_read(rt: R, alloc: Global) -> FileDevice<R, STORE_SIZE>
         ensures { result ≡ record { failed = 0; lost = false } }
     {
         FileDevice {
             rt,
             alloc,
-            store: FileStore::new(STORE_FILE, STORE_SIZE as u64, Access::Read),
+            store: FileStore::new(METER, STORE_SIZE as u64, Access::Read),
             failures: 0,
         }
     }
@@ -102,13 +93,13 @@ where
         FileDevice {
             rt,
             alloc,
-            store: FileStore::new(STORE_FILE, STORE_SIZE as u64, Access::Write),
+            store: FileStore::new(METER, STORE_SIZE as u64, Access::Write),
             failures: 0,
         }
     }
 }
 
-impl<R: HostSystem + Print + Drop> FileDevice<R, LOG_SIZE>
+impl<R: HostSystem + Print + Clock + Drop> FileDevice<R, LOG_SIZE>
 where
     R::File: HeldFile,
 {
@@ -119,7 +110,7 @@ where
         FileDevice {
             rt,
             alloc,
-            store: FileStore::new(LOG_FILE, LOG_SIZE as u64, Access::Read),
+            store: FileStore::new(LOG, LOG_SIZE as u64, Access::Read),
             failures: 0,
         }
     }
@@ -131,13 +122,13 @@ where
         FileDevice {
             rt,
             alloc,
-            store: FileStore::new(LOG_FILE, LOG_SIZE as u64, Access::Write),
+            store: FileStore::new(LOG, LOG_SIZE as u64, Access::Write),
             failures: 0,
         }
     }
 }
 
-impl<R: HostSystem + Print + Drop, const N: usize> FileDevice<R, N>
+impl<R: HostSystem + Print + Clock + Drop, const N: usize> FileDevice<R, N>
 where
     R::File: HeldFile,
 {
@@ -146,12 +137,13 @@ where
         ensures stays { StaysLost self.old.lost self.new.lost result }
         ensures same { self.new.failed ≡ self.old.failed }
     {
-        self.store.look(&self.rt)?;
-        self.rt.write_all(bytes)
+        self.store.look(&self.rt, self.alloc)?;
+        print_whole(&self.rt, bytes)
     }
 }
 
-impl<R: HostSystem + Print + Drop, const N: usize, L: Ledger> Printer<N, L> for FileDevice<R, N>
+impl<R: HostSystem + Print + Clock + Drop, const N: usize, L: Ledger> Printer<N, L>
+    for FileDevice<R, N>
 where
     R::File: HeldFile,
 {
@@ -188,7 +180,8 @@ where
     }
 }
 
-impl<R: HostSystem + Print + Drop, const N: usize, L: Ledger> Board<N, L> for FileDevice<R, N>
+impl<R: HostSystem + Print + Clock + Drop, const N: usize, L: Ledger> Board<N, L>
+    for FileDevice<R, N>
 where
     R::File: HeldFile,
 {

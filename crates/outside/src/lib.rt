@@ -15,13 +15,16 @@ mod image;
 mod list_laws;
 mod named_file;
 mod new_store;
+mod outputs;
 mod printer;
+mod printing;
 mod program;
 mod quiet_board;
 mod retried;
 mod run_laws;
 mod second_name;
 mod store_file;
+mod store_names;
 mod text;
 mod written_again;
 
@@ -32,7 +35,6 @@ pub use files::Files;
 pub use held_file::HeldFile;
 pub use host_files::HostFiles;
 pub use list_laws::{Places, a_slice_of_bytes, a_slice_that_is_not_touched, what_begins_a_text};
-pub use new_store::StoreNames;
 pub use printer::Printer;
 pub use program::program_words;
 pub use quiet_board::QuietBoard;
@@ -40,4 +42,5 @@ pub use run_laws::{
     Kind, a_kept_store_is_left, a_print_is_a_run, a_run_after_another, a_run_that_calls_nothing,
     a_wider_kind,
 };
+pub use store_names::StoreNames;
 pub use text::{RoomFault, TextFault, read_text, read_whole};

@@ -1,25 +1,17 @@
 //! A new store, which is whole before it has its name.
 use crate::failures::unless_one_of;
-use crate::folder::sync_folder;
+use crate::folder::Folder;
 use crate::held_file::HeldFile;
 use crate::named_file::{OWNER_ALONE, is_same, locked, new_file, require_named};
 use crate::retried::write_whole;
+use crate::store_file::Access;
+use crate::store_names::StoreNames;
 use crate::written_again::{Unsynced, sync_or_write_again};
 use std::fs::{OpenFile, OpenOptions, Permissions};
 use std::io::ErrorKind;
 use std::os::unix::fs::{MetadataExt, PermissionsExt};
 use std::rt::Files as HostSystem;
 use std::{fs, io};
-
-/// The names of a store's file, in the working folder.
-#[derive(Clone, Copy)]
-pub struct StoreNames {
-    /// The file that is the store.
-    pub store: &'static str,
-
-    /// What a new store is called until it is whole.
-    pub unfinished: &'static str,
-}
 
 /// The bits of a mode that say who may do what, and under whose name.
 const MODE_BITS: u32 = 0o7777;
@@ -45,7 +37,7 @@ where
         return Ok(file);
     }
     let file = made(rt, names.store, size)?;
-    sync_folder(rt, names)?;
+    Folder::working(names).sync(rt, Access::Write)?;
     Ok(file)
 }
 
@@ -57,7 +49,7 @@ where
     match rt.hard_link(names.unfinished, names.store) {
         Ok(()) => {
             require_named(rt, names.store, file)?;
-            sync_folder(rt, names)?;
+            Folder::working(names).sync(rt, Access::Write)?;
             Ok(true)
         }
         Err(error) => match error.kind() {
@@ -69,17 +61,28 @@ where
     }
 }
 
-/// A new file of this number of zeros, which are on the medium. It fails if anything has this name.
+/// A new file of this number of zeros, which are on the medium. It fails if anything has this name. If the file doesn't
+/// become whole, its name goes again.
 fn made<R: HostSystem>(rt: &R, name: &str, size: u64) -> io::Result<R::File>
 where
     R::File: HeldFile,
 {
     let file = new_file(rt, name)?;
     let mut file = locked(rt, name, file)?;
-    give_to_owner_alone(&file)?;
-    write_zeros(&mut file, size)?;
-    sync_or_write_again(&mut file, size, Unsynced::whole(size))?;
-    Ok(file)
+    match fill(&mut file, size) {
+        Ok(()) => Ok(file),
+        Err(error) => {
+            rt.remove_file(name).ok();
+            Err(error)
+        }
+    }
+}
+
+/// Gives a new file the mode of a store, and this number of zeros, which are on the medium then.
+fn fill<F: HeldFile>(file: &mut F, size: u64) -> io::Result<()> {
+    give_to_owner_alone(file)?;
+    write_zeros(file, size)?;
+    sync_or_write_again(file, size, Unsynced::whole(size))
 }
 
 /// Gives a new file the mode of a store, since the process's mask may have taken away what its owner may do. The error

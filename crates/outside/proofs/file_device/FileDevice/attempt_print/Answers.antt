@@ -17,5 +17,5 @@ not_lost {before = before} looked printed is found stays =
 pub returns-clause-stays : goal.returns-clause-stays
 returns-clause-stays g c =
     let found : is_ok c.look.result ≡ true = search rules in
-    not_lost c.look.result c.write_all.result (ap (λ (d : DeviceState). d.lost) c.self.view_is) found
+    not_lost c.look.result c.print_whole.result (ap (λ (d : DeviceState). d.lost) c.self.view_is) found
     c.look.ensures.stays
