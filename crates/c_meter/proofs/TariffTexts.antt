@@ -2,7 +2,7 @@
 use Rattle.std.proofs.Common.{ℕ, ◌≡◌, List}
 use Rattle.{seal_record.specs.declared.seal.Seal.{Seal}, tariff_compile.specs.Tables.{TableParts}}
 use Rattle.{meter_model.specs.Setting.{Setting, setting_by}, meter_states.specs.Setting.{IsSettingOf}}
-use Rattle.{meter_states.specs.MadeOf.{AreMadeOf}, c_meter.specs.Common.{Whole, drive_end, drive_shown}}
+use Rattle.{meter_texts.specs.MadeOf.{AreMadeOf}, c_meter.specs.Common.{Whole, drive_end, drive_shown}}
 use Rattle.c_meter.specs.Shown.{ShowsDrive}
 
 -- lines that are shown of a whole drive under each setting of such tables and such a seal are what the texts show of it

@@ -1,6 +1,6 @@
 -- Rules: what a call from C shows, and why it shows nothing.
 use Rattle.std.specs.Prelude.{[], ℕ, ◌<◌, ◌∷◌, ◌≡◌, ◌≢◌, ◌⊎◌, Contains, List, Ok, Some, length}
-use Rattle.{seal_record.specs.{Reading.{params_read}, declared.params.Params.{Params}}, tariff_syntax.specs.Tree.{Tree}}
+use Rattle.{seal_record.specs.{Reading.{params_read}, declared.params.Params.{Params}}, tariff_tree.specs.Tree.{Tree}}
 use Rattle.{tariff_syntax.specs.Reads.{IsFirstBadLine}, tariff_check.specs.declared.fault.CheckFault.{CheckFault}}
 use Rattle.{tariff_check.specs.Faults.{fault_of}, meter_model.specs.Setting.{setting_by}}
 use Rattle.c_meter.specs.Common.{IsSound, NoMemory, Reads, Stop, Whole, drive_end, drive_shown}

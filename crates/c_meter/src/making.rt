@@ -1,6 +1,6 @@
 //! A meter made of two texts.
 ghost use Rattle.std.specs.Prelude.{◌≡◌, ◌⊎◌, Err, IfErr, IfOk, IsErr};
-ghost use Rattle.{seal_record.specs.Reading.{params_read}, meter_states.specs.MadeOf.{AreMadeOf}};
+ghost use Rattle.{seal_record.specs.Reading.{params_read}, meter_texts.specs.MadeOf.{AreMadeOf}};
 ghost use Rattle.c_meter.specs.{Common.{IsSound, Reads, tree_of}, Shown.{HasNoTariff, status_of}};
 
 use seal_record::{Seal, read_params};

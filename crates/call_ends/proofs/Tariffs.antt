@@ -1,7 +1,7 @@
 -- The sound tariff of a text that was read.
 use Rattle.std.{specs.Prelude.{◌⊎◌}, proofs.lemmas.Bool.{le-ltb}}
 use Rattle.std.proofs.Common.{ℕ, ◌∙◌, ◌≡◌, ◌≢◌, Err, List, Ok, Option, Some, ap, inl, inr, length, refl, sym}
-use Rattle.tariff_syntax.specs.{Reads.{IsParsed}, declared.tariff.Tariff.{Tariff}}
+use Rattle.{tariff_tree.specs.declared.tariff.Tariff.{Tariff}, tariff_syntax.specs.Reads.{IsParsed}}
 use Rattle.tariff_syntax.proofs.Laws.{texts_are_parsed_as_they_read-bad_line, texts_are_parsed_as_they_read-tariff}
 use Rattle.{tariff_check.specs.Faults.{fault_of}, call_ends.specs.Tariffs.{IsOfLines, sound_in, tariff_in}}
 use Rattle.call_ends.specs.{Common.{CheckFault, Refusal, Syntax, Unsound, tree_of}, Ending.{unsound_for}}

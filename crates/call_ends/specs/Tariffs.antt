@@ -1,8 +1,8 @@
 -- Rules: the tariff of a text, and what is answered if there is none.
 use Rattle.std.specs.Prelude.{ℕ, ◌≡◌, ◌≤◌, Err, List, None, Ok, Option, Result, Some, if◌then◌else◌, length, nat_lt}
-use Rattle.{tariff_syntax.specs.{Parsed.{tree_parsed}, Tree.{Tree}}, tariff_check.specs.Faults.{fault_of}}
+use Rattle.{tariff_tree.specs.Tree.{Tree}, tariff_syntax.specs.Parsed.{tree_parsed}}
+use Rattle.{tariff_check.specs.Faults.{fault_of}, call_ends.specs.LastLine.{bad_other_line, bad_tariff_line}}
 use Rattle.call_ends.specs.{Answer.{Answer, refuses}, Common.{CheckFault, Refusal, Syntax, TooLong, Unsound}}
-use Rattle.call_ends.specs.LastLine.{bad_other_line, bad_tariff_line}
 
 -- a tariff is sound if it has no fault, and else refused for its first fault
 abbrev pub sound_in : Tree → Option CheckFault → Result Tree Refusal

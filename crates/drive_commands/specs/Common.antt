@@ -8,7 +8,7 @@ pub use Rattle.drive_text.specs.Ending.{BadAt, Endless, IsGoing, IsSplit, Stream
 pub use Rattle.{drive_text.specs.Runs.{run_events}, totals_record.specs.declared.durable_state.Durable.{Durable}}
 pub use Rattle.{totals_record.specs.States.{first_state}, seal_record.specs.declared.params.ParamFault.{ParamFault}}
 pub use Rattle.{seal_record.specs.declared.{params.Params.{Params}, seal.Seal.{Seal}}, meter_run.specs.Runs.{OpensWith}}
-pub use Rattle.{meter_store.specs.Stored.{HasState}, tariff_syntax.specs.Tree.{Tree, tree_of}}
+pub use Rattle.{meter_store.specs.Stored.{HasState}, tariff_tree.specs.Tree.{Tree, tree_of}}
 pub use Rattle.{tariff_compile.specs.Tables.{IsTablesOf, TableParts, tables_of}, meter_run.specs.InTurn.{CommitsInTurn}}
 pub use Rattle.{meter_model.specs.Setting.{Setting, setting_by}, meter_states.specs.Fits.{Fits, fits_test}}
 pub use Rattle.{meter_states.specs.Setting.{IsSettingOf}, meter_run.specs.declared.fault.RunFault.{RunFault}}

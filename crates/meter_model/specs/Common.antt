@@ -4,7 +4,7 @@ pub use Rattle.taxi_units.specs.declared.{event.{Event.{Event}, Key.{Key}}, rece
 pub use Rattle.taxi_units.specs.declared.event.Operating.{Operating, TheVariants.{ForHire, Hired, Off, Stopped}}
 pub use Rattle.taxi_units.specs.declared.{event.Why.TheVariants.{NotNow}, receipt.Kind.TheVariants.{Closed}}
 pub use Rattle.totals_record.specs.declared.{durable_state.Durable.{Durable}, trip.Trip.{Trip}}
-pub use Rattle.tariff_syntax.specs.declared.context.Context.{Context}
+pub use Rattle.tariff_tree.specs.declared.context.Context.{Context}
 pub use Rattle.tariff_check.specs.{Amounts.{fees_in_force}, SoundTariff.{SoundTariff, supplement_numbered}}
 pub use Rattle.{tariff_check.specs.declared.values.Supplement.{Supplement}, meter_model.specs.declared.act.Act.{Act}}
 pub use Rattle.meter_model.specs.declared.act.Act.TheVariants.{Refuse}

@@ -1,6 +1,6 @@
 -- Rules: what the meter goes by, its tariff and its secured parameters.
 use Rattle.std.specs.Prelude.{[], ℕ, ℤ, ◌*◌, ◌∷◌, ◌≡◌, List}
-use Rattle.{taxi_units.specs.{Time.{first_second}, declared.receipt.Stamp.{Stamp}}, tariff_syntax.specs.Tree.{Tree}}
+use Rattle.{taxi_units.specs.{Time.{first_second}, declared.receipt.Stamp.{Stamp}}, tariff_tree.specs.Tree.{Tree}}
 use Rattle.drive_modes.specs.declared.{charges.Mode.{Mode}, meterage.Rounding.{Rounding}}
 use Rattle.interval_clock.specs.{LocalTime.{local_second, local_time_of}, declared.local_time.LocalTime.{LocalTime}}
 use Rattle.seal_record.specs.declared.{params.Params.{Params}, seal.Seal.{Seal}}

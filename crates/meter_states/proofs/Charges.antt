@@ -5,14 +5,15 @@ use Rattle.std.proofs.Common.{[], ℕ, ◌*◌, ◌+◌, ◌-◌, ◌/◌, ◌<�
 use Rattle.std.proofs.Math.Nat.{le_of_mul-le-mul_right, lt_of_mul-lt-mul_right, mul-le-mul_right}
 use Rattle.std.proofs.Math.Nat.{mul-lt-mul_of_pos_right, mul-pos, mul_assoc, mul_comm, mul_left_comm}
 use Rattle.std.proofs.lemmas.{Grind.{common_steps}, List.{get_or-map, Elements.{All-get_or, All-head, All-tail}}}
-use Rattle.{drive_modes.specs.declared.charges.Mode.TheVariants.{Double, Single}, meter_model.specs.Charge.{charge_by}}
-use Rattle.{tariff_syntax.specs.Writable.{IsWritable}, tariff_check.proofs.Laws.{sound_tariffs_have_sound_parts-parts}}
+use Rattle.{drive_modes.specs.declared.charges.Mode.TheVariants.{Double, Single}, tariff_check.specs.Faults.{IsSound}}
+use Rattle.{tariff_tree.specs.Writable.{IsWritable}, tariff_check.proofs.Laws.{sound_tariffs_have_sound_parts-parts}}
 use Rattle.tariff_check.specs.{Measure.{IsMultipleOfAll, measure_of}, declared.choice.ChoiceKind.TheVariants.{Rate}}
 use Rattle.tariff_check.specs.{Parts.{RateNumbers, rates_of}, SoundLookups.{rate_in_force}, SoundTariff.{sound_of}}
 use Rattle.{tariff_check.specs.Sound.{IsSoundRate}, tariff_compile.specs.Tables.{all_weights, weights_of}}
 use Rattle.tariff_check.proofs.Laws.{lines_that_hold_are_there-rate, measures_are_least-least, measures_are_least-sound}
-use Rattle.meter_states.specs.Common.{Context, IsSound, Mode, Setting, SoundTariff, TableParts, Tree, Weights}
-use Rattle.meter_states.specs.{Common.{charge_at, charge_of, rate_by, weights_in_force}, Setting.{IsTariffOf}}
+use Rattle.{meter_model.specs.Charge.{charge_by}, meter_states.specs.Common.{charge_of, rate_by, weights_in_force}}
+use Rattle.meter_states.specs.Common.{Context, Mode, Setting, SoundTariff, TableParts, Tree, Weights, charge_at}
+use Rattle.meter_states.specs.Setting.{IsTariffOf}
 
 -- numbers that are scaled alike compare alike
 same-below : (d t a c v w : ℕ) → 0 < v → 0 < w → d * v ≡ a * w → t * v ≡ c * w → (b : Bool) → ltb d t ≡ b → ltb a c ≡ b

@@ -16,8 +16,6 @@ mod HeldFits
 mod KeyStages
 -- the laws that the crates above may cite
 pub mod Laws
--- tables and a seal that are made of two texts
-mod MadeOf
 -- a charge more
 mod Meterages
 -- how stages that follow one another join, and which cores meet the outcome of an event

@@ -3,11 +3,12 @@ use Rattle.std.proofs.Common.{[], ℕ, ◌+◌, ◌<◌, ◌∙◌, ◌∷◌, �
 use Rattle.std.proofs.Common.{false, get_or, length, ltb, refl, suc, sym, true, zero}
 use Rattle.{std.proofs.lemmas.Bool.{ltb-false, ltb-true}, taxi_units.specs.Limits.{largest_supplements}}
 use Rattle.std.proofs.lemmas.List.{get_or_past, FromFn.{get_or-map-range_with_len, length-map-range_with_len}}
-use Rattle.{tariff_syntax.specs.Writable.{IsFromTo, IsWritable}, tariff_check.specs.Parts.{supplement_of}}
+use Rattle.{tariff_tree.specs.Writable.{IsFromTo, IsWritable}, tariff_check.specs.Parts.{supplement_of}}
+use Rattle.{tariff_check.specs.Faults.{IsSound}, tariff_compile.specs.Tables.{IsCompiled}}
 use Rattle.tariff_check.proofs.Laws.{sound_tariffs_have_sound_parts-parts, supplements_are_numbered_to_16}
-use Rattle.{tariff_compile.specs.Tables.{IsCompiled}, meter_states.specs.{Lawful.{IsLawfulTrip}, Setting.{IsTariffOf}}}
-use Rattle.meter_states.specs.Common.{AreAllowed, CoreTrip, IsSound, IsTablesOf, Setting, SoundTariff, Supplement}
-use Rattle.meter_states.specs.Common.{TableParts, Tree, amount_in, amounts_from, most_in, supplement_numbered}
+use Rattle.meter_states.specs.Common.{AreAllowed, CoreTrip, IsTablesOf, Setting, SoundTariff, Supplement, TableParts}
+use Rattle.meter_states.specs.Common.{Tree, amount_in, amounts_from, most_in, supplement_numbered}
+use Rattle.meter_states.specs.{Lawful.{IsLawfulTrip}, Setting.{IsTariffOf}}
 use Rattle.meter_states.{specs.Supplements.{supplement_in}, proofs.Amounts.{AreBounded, allowed-few, amounts-most}}
 
 -- a tariff has no supplement of another number than 1 to 16

@@ -1,7 +1,7 @@
 -- Rules: the cache of a core, which is what was looked up and when it still serves.
 use Rattle.std.specs.{Option.{ForSome}, Prelude.{ℕ, ◌≡◌, ◌≤◌, true}}
 use Rattle.interval_clock.specs.{LocalTime.{local_second, local_time_of}, declared.local_time.LocalTime.{LocalTime}}
-use Rattle.{tariff_syntax.specs.Writable.{IsFromTo}, tariff_calendar.specs.Lists.{has_days, is_holiday}}
+use Rattle.{tariff_tree.specs.Writable.{IsFromTo}, tariff_calendar.specs.Lists.{has_days, is_holiday}}
 use Rattle.meter_states.specs.Common.{AreFit, Cache, CachedRate, CachedTime, Context, IsInRangeFor, IsNear, IsTablesOf}
 use Rattle.meter_states.specs.{Common.{Seal, TableParts, Tree, rate_by}, Core.{CoreData}}
 

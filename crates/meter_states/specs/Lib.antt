@@ -6,7 +6,6 @@ pub mod Equals
 pub mod EventOnCore
 pub mod Fits
 pub mod Lawful
-pub mod MadeOf
 pub mod Pairs
 pub mod Refusals
 pub mod Setting

@@ -9,7 +9,7 @@ use interval_clock::civil;
 use seal_record::Seal;
 use std::sync::ledger::Ledger;
 use tariff_compile::{Lasting, Tables};
-use tariff_syntax::Context;
+use tariff_tree::Context;
 use taxi_units::Steps;
 
 /// What a condition may ask of the local time at a second.

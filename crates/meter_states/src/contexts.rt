@@ -11,7 +11,7 @@ use drive_modes::Weights;
 use seal_record::Seal;
 use std::sync::ledger::Ledger;
 use tariff_compile::Tables;
-use tariff_syntax::Context;
+use tariff_tree::Context;
 use taxi_units::Steps;
 
 impl State {

@@ -3,7 +3,7 @@
 #![tactic(auto)]
 
 ghost use Rattle.std.specs.{Option.{ForSome}, Prelude.{[], ◌*◌, ◌++◌, ◌+◌, ◌<◌, ◌≡◌, ◌≤◌, All, IfSome, OnOk, length}};
-ghost use Rattle.{outside.specs.Faults.{HasCause}, meter_states.specs.MadeOf.{AreMadeOf}};
+ghost use Rattle.{outside.specs.Faults.{HasCause}, meter_texts.specs.MadeOf.{AreMadeOf}};
 ghost use Rattle.pocket_meter.specs.Common.{IsSettingOf, IsTimely, Setting, first_state, opened, run, shown_texts};
 ghost use Rattle.pocket_meter.specs.Lines as spec;
 

@@ -6,11 +6,11 @@ use Rattle.{slot_bodies.specs.Bodies.{body_size}, slot_store.specs.declared.foun
 use Rattle.slot_store.{specs.{Scan.{IsAnswer}, Slots.{slot_at}, declared.found.Found.{Found}}, proofs.Laws.{answer_is}}
 use Rattle.{drive_text.specs.Ending.{drive_end, events_of}, totals_record.specs.declared.trip.Trip.{Trip}}
 use Rattle.seal_record.{specs.Ranges.{IsSeal}, proofs.Laws.{seals_are_read_by_their_table}}
-use Rattle.{tariff_syntax.specs.{Parsed.{tree_parsed}, Tree.{Tree}}, meter_model.specs.declared.act.Act.{Act}}
+use Rattle.{tariff_tree.specs.Tree.{Tree}, tariff_syntax.specs.Parsed.{tree_parsed}, meter_model.specs.Run.{whole_run}}
 use Rattle.tariff_syntax.proofs.Laws.{texts_are_parsed_as_they_read-tariff, texts_have_their_numbers}
 use Rattle.tariff_check.specs.{Faults.{fault_of}, declared.fault.CheckFault.{CheckFault}}
 use Rattle.tariff_check.{specs.SoundTariff.{sound_of}, proofs.Laws.{sound_tariffs_have_sound_parts-none}}
-use Rattle.{meter_model.specs.{Run.{whole_run}, Setting.{Setting}}, same_tariffs.specs.Same.{AreSameSettings}}
+use Rattle.{meter_model.specs.{Setting.{Setting}, declared.act.Act.{Act}}, same_tariffs.specs.Same.{AreSameSettings}}
 use Rattle.{meter_states.proofs.Laws.{the_store_has_what_the_acts_commit-run}, same_tariffs.specs.Reached.{HoldGoesOn}}
 use Rattle.same_tariffs.specs.{Alike.{AreHoldsAlike, AreOutcomesAlike, AreStoresAlike}, Contexts.{IsSettingInRange}}
 use Rattle.same_tariffs.proofs.Laws.{events_of_drives_are_timely, same_tariffs_run_alike-goes_on}

@@ -1,15 +1,15 @@
 -- More pulses than any tariff can name change no line that holds.
-use Rattle.{std.specs.List.{cons_option, position_from}, tariff_syntax.specs.Meaning.{holds, holds_if}}
+use Rattle.{std.specs.List.{cons_option, position_from}, tariff_tree.specs.Meaning.{holds, holds_if}}
 use Rattle.std.proofs.Common.{[], ℕ, ◌&&◌, ◌*◌, ◌+◌, ◌<◌, ◌||◌, ◌∙◌, ◌∷◌, ◌≡◌, ◌≤◌, All, Bool, List, None, Option, Some}
 use Rattle.std.proofs.Common.{ap, arith, false, if◌then◌else◌, min, nat_le, not, refl, sym, true}
 use Rattle.std.proofs.lemmas.{Grind.{common_steps}, List.Elements.{All-cons, All-head, All-nil, All-tail}, Nat.{mul-le}}
-use Rattle.tariff_syntax.specs.Choices.{Choice, RateNumbers, choice_in, choices, conditions_of, rate_part}
-use Rattle.tariff_syntax.specs.{Condition.{Condition}, Tree.{Entry, Line}}
-use Rattle.tariff_syntax.specs.Writable.{IsWritableCondition, IsWritableEntry, IsWritableIf, greatest}
+use Rattle.tariff_tree.specs.Choices.{Choice, RateNumbers, choice_in, choices, conditions_of, rate_part}
+use Rattle.tariff_tree.specs.{Condition.{Condition}, Tree.{Entry, Line}}
+use Rattle.tariff_tree.specs.Writable.{IsWritableCondition, IsWritableEntry, IsWritableIf, greatest}
 use Rattle.same_tariffs.specs.Common.{Context, IsWritable, Tree, most_pulses, rate_place}
-use Rattle.tariff_syntax.specs.Condition as tree
-use Rattle.tariff_syntax.specs.Part as part
-use Rattle.tariff_syntax.specs.Tree as entries
+use Rattle.tariff_tree.specs.Condition as tree
+use Rattle.tariff_tree.specs.Part as part
+use Rattle.tariff_tree.specs.Tree as entries
 
 -- a context with no more pulses than a distance can be
 abbrev pub capped : Context → Context

@@ -1,6 +1,6 @@
 -- The contexts that meters within reach are charged and hired in, and settings that agree because their tariffs are the
 -- same.
-use Rattle.{std.{specs.Option.{unwrap_or}, proofs.Common.{true, unsigned_abs}}, tariff_syntax.specs.Meaning.{at_hiring}}
+use Rattle.{std.{specs.Option.{unwrap_or}, proofs.Common.{true, unsigned_abs}}, tariff_tree.specs.Meaning.{at_hiring}}
 use Rattle.std.proofs.Common.{ℕ, ◌*◌, ◌<◌, ◌∙◌, ◌≡◌, ◌≤◌, Option, ap, arith, get_or, mul-pos, pos, refl, subst, sym}
 use Rattle.{drive_modes.specs.declared.meterage.Rounding.TheVariants.{Behind}, interval_clock.specs.Offsets.{offset_at}}
 use Rattle.{interval_clock.specs.Calendar.{weekday_of}, tariff_check.proofs.Laws.{sound_tariffs_have_sound_parts-parts}}

@@ -6,8 +6,8 @@ pub use Rattle.{drive_modes.specs.Fare.{Opening, steps_above}, drive_text.specs.
 pub use Rattle.drive_modes.specs.declared.{charges.Mode.{Mode}, meterage.{Meterage.{Meterage}, Rounding.{Rounding}}}
 pub use Rattle.interval_clock.specs.{LocalTime.{day_of, local_second, minute_of_day}, Offsets.{IsOffsetList}}
 pub use Rattle.{drive_text.specs.Written.{drive_of}, totals_record.specs.declared.durable_state.Durable.{Durable}}
-pub use Rattle.{totals_record.specs.declared.trip.Trip.{Trip}, tariff_syntax.specs.declared.context.Context.{Context}}
-pub use Rattle.tariff_syntax.specs.{Meaning.{rate_place}, Tree.{Tree}, Writable.{IsFromTo, IsWritable}}
+pub use Rattle.{totals_record.specs.declared.trip.Trip.{Trip}, tariff_tree.specs.declared.context.Context.{Context}}
+pub use Rattle.tariff_tree.specs.{Meaning.{rate_place}, Tree.{Tree}, Writable.{IsFromTo, IsWritable}}
 pub use Rattle.tariff_check.specs.{Amounts.{fees_in_force, initial_by}, SoundTariff.{sound_of, supplement_numbered}}
 pub use Rattle.{tariff_check.specs.Faults.{IsSound}, meter_model.specs.Interval.{context_now, context_of, ticks_so_far}}
 pub use Rattle.tariff_compare.specs.Contexts.{IsMeterContext, context_at, most_pulses}

@@ -4,12 +4,12 @@ pub use Rattle.{outside.specs.Faults.{Rose}, slot_store.specs.declared.found.Fou
 pub use Rattle.outside.specs.{PrintedText.{Begins}, Reading.{LeavesOthers}, declared.printer.Printer.{Ghosts}}
 pub use Rattle.slot_store.specs.{Scan.{IsAsFound, found_at}, declared.pair.Place.{Place}}
 pub use Rattle.slot_store.specs.{Syncs.{IsAsHeld, LeavesFromSync, ReadsOnly}, declared.found.SlotFault.{SlotFault}}
-pub use Rattle.{offset_rules.specs.{Rule.{Rule}, declared.fault.RuleFault.{RuleFault}}, tariff_syntax.specs.Tree.{Tree}}
+pub use Rattle.offset_rules.specs.{Rule.{Rule}, declared.fault.RuleFault.{RuleFault}}
 pub use Rattle.totals_record.specs.{Ranges.{IsDurable}, declared.durable_state.Durable.{Durable}}
 pub use Rattle.seal_record.specs.{Limits.{last_seal_number}, declared.{params.Params.{Params}, seal.Seal.{Seal}}}
 pub use Rattle.seal_record.specs.{PlainText.{comment_line, ended_text}, declared.params.ParamFault.{ParamFault}}
 pub use Rattle.{seal_record.specs.Ranges.{IsSeal}, shift_book.specs.{BookReading.{book_read}, MarkOrder.{numbers_in}}}
-pub use Rattle.meter_store.specs.Sealing.{Sealing, found_number, next_number, old_seal}
+pub use Rattle.{meter_store.specs.Sealing.{Sealing, found_number, next_number, old_seal}, tariff_tree.specs.Tree.{Tree}}
 pub use Rattle.call_ends.specs.{Answer.{Answer, shows}, Tariffs.{tariff_in}}
 pub use Rattle.call_ends.specs.{Carried.{Carries, no_files}, LastLine.{line_of, refused_as, sealed_line, status_of}}
 pub use Rattle.call_ends.specs.{Course.{Answered, Command, store_command}, Ending.{EndsByCourse, LeavesStoreUnwritten}}

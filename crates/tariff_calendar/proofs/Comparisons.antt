@@ -4,10 +4,10 @@ use Rattle.std.proofs.Common.{[], ℕ, ◌*◌, ◌++◌, ◌+◌, ◌/◌, ◌�
 use Rattle.std.proofs.{Common.{not, refl, subst, sym}, lemmas.List.Elements.{All-cons, All-head, All-nil, All-tail}}
 use Rattle.std.proofs.lemmas.Bool.{cases_eq, cases_lt, le-leb, le-ltb, lt-leb, lt-ltb, ne_eqb}
 use Rattle.{taxi_units.specs.{Calendar.{date_place}, DateTest.{date_test}}, tariff_check.specs.Lines.{atoms_of}}
-use Rattle.{tariff_syntax.specs.Meaning.{is_in_time, is_within}, tariff_check.specs.Cuts.{day_cut, minute_cut}}
+use Rattle.{tariff_tree.specs.Meaning.{is_in_time, is_within}, tariff_check.specs.Cuts.{day_cut, minute_cut}}
 use Rattle.tariff_calendar.specs.Common.{Condition, Context, Distance, IsGoodAtom, Minute, MonthDay, Time, atom_cuts}
 use Rattle.tariff_calendar.{specs.{Common.{holds}, Lists.{pulses_for}}, proofs.Dates.{on_places}}
-use Rattle.tariff_syntax.specs.Condition as tree
+use Rattle.tariff_tree.specs.Condition as tree
 
 -- a cut compares alike with two values
 abbrev pub IsAlike : (v w cut : ℕ) → Type 0

@@ -4,7 +4,7 @@ use Rattle.std.proofs.Common.{inr, leb, ltb, refl, sym, true}
 use Rattle.std.proofs.lemmas.Bool.{cases_lt, cases_order, eq-eqb, le-leb, le-ltb, lt-leb, lt-ltb, ne_eqb}
 use Rattle.taxi_units.specs.Calendar.{IsLeapYearDate, date_of_place, date_place}
 use Rattle.taxi_units.proofs.Laws.{dates_have_places, dates_in_order, places_have_dates}
-use Rattle.tariff_syntax.specs.Meaning.{is_by, is_in_dates, is_on, is_within}
+use Rattle.tariff_tree.specs.Meaning.{is_by, is_in_dates, is_on, is_within}
 
 -- a date that isn't after another comes by it
 by_where : (a b c d : ℕ) → ((c < a) ⊎ ((c ≡ a) × (d < b)) → ⊥) → (ltb a c || (eqb a c && leb b d)) ≡ true

@@ -9,7 +9,7 @@ use Rattle.tariff_calendar.specs.Common.{IsWritable, Line, Minute, MonthDay, Tim
 use Rattle.tariff_calendar.specs.Lists.{AreOrdered, IsNotFalling, count_at_most, day_of, list_in, lists_of, pulses_for}
 use Rattle.tariff_calendar.proofs.Counts.{count_at_most-zero}
 use Rattle.tariff_calendar.proofs.Insertions.{All-with_each, IsRising-none, IsRising-with_each, length-with_each}
-use Rattle.tariff_syntax.specs.Condition as tree
+use Rattle.tariff_tree.specs.Condition as tree
 
 -- numbers that rise don't fall
 IsNotFalling-rising : (xs : List ℕ) → IsRising xs → IsNotFalling xs

@@ -2,8 +2,8 @@
 use Rattle.std.specs.{List.{All, Contains, cons_option, flat_map, position_from}, Option.{option_map}}
 use Rattle.std.proofs.Common.{[], ℕ, ◌+◌, ◌∷◌, ◌≡◌, List, None, Option, Some, get_or, map, refl, subst}
 use Rattle.std.proofs.lemmas.List.Elements.{All-cons, All-contains, All-from_get_or, All-head, All-nil, All-tail}
-use Rattle.{std.proofs.lemmas.List.Elements.{Contains-get_or}, tariff_syntax.specs.Choices.{choices, conditions_of}}
-use Rattle.{tariff_syntax.specs.{Meaning.{holds_if}, Tree.{Entry, when_part}}, tariff_check.specs.Cuts.{all_cuts}}
+use Rattle.{std.proofs.lemmas.List.Elements.{Contains-get_or}, tariff_tree.specs.Choices.{choices, conditions_of}}
+use Rattle.{tariff_tree.specs.{Meaning.{holds_if}, Tree.{Entry, when_part}}, tariff_check.specs.Cuts.{all_cuts}}
 use Rattle.tariff_check.{specs.Lines.{atoms_if, atoms_in}, proofs.Laws.{sound_tariffs_have_sound_parts-parts}}
 use Rattle.tariff_calendar.specs.Common.{Condition, Context, Dimension, Distance, HasSoundParts, IsGoodAtom, IsSound}
 use Rattle.tariff_calendar.specs.Common.{IsWritable, Line, Minute, MonthDay, Time, Tree, at_hiring, atom_cuts}

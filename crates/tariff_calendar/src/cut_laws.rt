@@ -1,6 +1,6 @@
 //! Why cuts are enough: contexts between the same cuts mean the same.
 ghost use Rattle.std.specs.Prelude.{ℕ, ℤ, ◌*◌, ◌+◌, ◌<◌, ◌↔◌, ◌≡◌, ◌≤◌, Contains, List, Some, length, slice_index};
-ghost use Rattle.{interval_clock.specs.Calendar.{IsDateOf}, tariff_syntax.specs.Tree.{when_part}};
+ghost use Rattle.{interval_clock.specs.Calendar.{IsDateOf}, tariff_tree.specs.Tree.{when_part}};
 ghost use Rattle.tariff_check.specs.{Kinds.{part_of}, declared.choice.ChoiceKind.{ChoiceKind}};
 ghost use Rattle.tariff_calendar.specs.Common.{Condition, Context, IsSound, IsWritable, Line, Tree, at_hiring};
 ghost use Rattle.tariff_calendar.specs.Common.{choice_place, has_holidays, holds, with_each};

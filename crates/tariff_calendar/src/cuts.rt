@@ -1,6 +1,6 @@
 //! The lists of cuts and of holidays.
 ghost use Rattle.std.specs.Prelude.{ℕ, ◌+◌, ◌≡◌, ◌≤ℤ◌, ◌≤◌, IfOk, length, min, pos};
-ghost use Rattle.{tariff_syntax.specs.Tree.{tree_of}, tariff_check.specs.Cuts.{most_cuts}};
+ghost use Rattle.{tariff_tree.specs.Tree.{tree_of}, tariff_check.specs.Cuts.{most_cuts}};
 ghost use Rattle.tariff_calendar.specs.Lists.{IsOrdered, count_at_most, has_day, has_days, list_in, lists_of};
 ghost use Rattle.tariff_calendar.specs.Lists.{most_reads};
 

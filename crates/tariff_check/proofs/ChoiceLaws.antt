@@ -2,7 +2,7 @@
 use Rattle.std.{specs.List.{cons_option, filter, slice_get}, proofs.lemmas.List.{length-append}}
 use Rattle.std.{specs.Option.{is_some, option_and_then, option_map}, proofs.Common.{refl, subst, suc, sym, zero}}
 use Rattle.std.proofs.Common.{[], ℕ, ◌++◌, ◌+◌, ◌∷◌, ◌≡◌, List, None, Option, Some, ap, append_assoc, cond, length, map}
-use Rattle.{tariff_syntax.specs.{Choices.{Choice}, Meaning.{place_of}}, tariff_check.specs.SoundTariff.{when_of_line}}
+use Rattle.{tariff_tree.specs.{Choices.{Choice}, Meaning.{place_of}}, tariff_check.specs.SoundTariff.{when_of_line}}
 use Rattle.tariff_check.specs.Common.{ChoiceKind, Condition, Context, Entry, Line, Parts, Supplement, Tree, choices}
 use Rattle.tariff_check.specs.Common.{conditions_of, holiday, supplement, values_of, when_part}
 use Rattle.tariff_check.specs.FoundLines.{line_in_force}

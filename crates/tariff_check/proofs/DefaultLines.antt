@@ -2,7 +2,7 @@
 use Rattle.std.{specs.{List.{list_any}, Option.{is_none}}, proofs.lemmas.List.{length-map}}
 use Rattle.std.proofs.Common.{[], ℕ, ◌<◌, ◌∷◌, ◌≡◌, All, Bool, List, None, Option, Some, arith, false, length, not}
 use Rattle.std.proofs.{Common.{refl, true}, lemmas.{List.Elements.{All-head, All-tail}, Option.{slice_get_within}}}
-use Rattle.tariff_syntax.{specs.Choices.{Choice}, proofs.Laws.{first_lines_hold-conditions}}
+use Rattle.tariff_tree.{specs.Choices.{Choice}, proofs.Laws.{first_lines_hold-conditions}}
 use Rattle.tariff_check.specs.Common.{Condition, Context, Entry, Tree, choice_place, choices, conditions_of, holds_if}
 use Rattle.tariff_check.{specs.Common.{values_of}, proofs.FaultStages.{faults_none, not_if}}
 use Rattle.tariff_check.specs.{Faults.{IsSound, has_default}, Parts.{initial_part, rate_part}}

@@ -2,7 +2,7 @@
 use Rattle.std.proofs.Common.{[], ℕ, ◌++◌, ◌<◌, ◌↔◌, ◌∙◌, ◌∷◌, ◌≡◌, ◌≤◌, ◌⊎◌, All, Bool, List, None, Option, Some, ap}
 use Rattle.std.proofs.Common.{append_assoc, arith, cond, false, get_or, inl, inr, length, length-append, refl, subst}
 use Rattle.std.proofs.{Common.{suc, sym, true}, lemmas.List.{append-nil, Elements.{All-cons, All-nil}}}
-use Rattle.tariff_syntax.specs.Reads.{RiseInNumber}
+use Rattle.tariff_tree.specs.Tree.{RiseInNumber}
 use Rattle.tariff_check.specs.{Common.{Entry, Line}, Lines.{IsFirstLine, IsNowhere, LineTest, first_after, first_line}}
 
 -- the test of a line decides how the search goes on

@@ -1,5 +1,5 @@
 -- What is proved of each kind of line.
-use Rattle.{std.specs.Option.{is_some}, tariff_syntax.specs.Writable.{IsWritableIf}}
+use Rattle.{std.specs.Option.{is_some}, tariff_tree.specs.Writable.{IsWritableIf}}
 use Rattle.std.proofs.{Common.{ℕ, ◌^◌, ◌≡◌, Some, ap, arith, false, refl, subst, true}, lemmas.Bool.{ltb-false}}
 use Rattle.tariff_check.specs.Common.{ChoiceKind, Entry, Initial, IsWritableEntry, Minimum, Rate, Tree, choices}
 use Rattle.tariff_check.specs.Common.{initial, largest_amount, minimum, rate, step, when_part}
@@ -7,7 +7,7 @@ use Rattle.tariff_check.specs.Kinds.{EachKind, InitialNumbers, IsSoundInitial, I
 use Rattle.tariff_check.{specs.Kinds.{Said, entry_with, is_great, is_of, part_of}, proofs.MeasureLaws.{both_some}}
 use Rattle.tariff_check.specs.Lines.{is_alike, is_for_nothing, most_alike}
 use Rattle.tariff_check.{specs.SoundTariff.{IsInOnePart, choices_in, sound_of}, proofs.FaultStages.{or_false}}
-use Rattle.tariff_syntax.specs.Part as part
+use Rattle.tariff_tree.specs.Part as part
 
 -- what holds of each kind holds of one
 pub of_kind : (P : ChoiceKind → Type 0) → EachKind P → (kind : ChoiceKind) → P kind

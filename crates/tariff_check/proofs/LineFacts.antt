@@ -2,7 +2,7 @@
 use Rattle.std.{specs.List.{list_any}, proofs.lemmas.Bool.{eqb-false, leb-true, ltb-false}}
 use Rattle.std.proofs.Common.{[], ℕ, ◌&&◌, ◌==◌, ◌^◌, ◌∷◌, ◌≡◌, ◌≤◌, All, Bool, List, None, Option, Some, arith, false}
 use Rattle.std.proofs.{Common.{not, refl, subst, true}, lemmas.List.Elements.{All-append, All-cons, All-nil}}
-use Rattle.{tariff_syntax.specs.Writable.{IsWritableCondition, IsWritableIf}, tariff_check.specs.Lines.{is_undated}}
+use Rattle.{tariff_tree.specs.Writable.{IsWritableCondition, IsWritableIf}, tariff_check.specs.Lines.{is_undated}}
 use Rattle.tariff_check.specs.Common.{ChoiceKind, Condition, Entry, IsFromTo, IsWritableEntry, Rounding, Supplement}
 use Rattle.tariff_check.specs.Common.{holiday, largest_display_step, positions, step, supplement, when_part, zones}
 use Rattle.tariff_check.{specs.Kinds.{IsSoundSaid, Said, is_great, part_of}, proofs.FaultStages.{or_false}}
@@ -10,8 +10,8 @@ use Rattle.tariff_check.specs.Lines.{atoms_if, atoms_in, atoms_of, is_after_noth
 use Rattle.tariff_check.specs.Parts.{DateNumbers, holiday_part, numbered_supplement, positions_part, step_part}
 use Rattle.tariff_check.specs.{Parts.{zones_part}, Sound.{IsGoodAtom, IsSoundAtom, IsSoundHoliday, IsSoundSupplement}}
 use Rattle.tariff_check.proofs.KindLaws.{said_sound, when_writable}
-use Rattle.tariff_syntax.specs.Condition as tree
-use Rattle.tariff_syntax.specs.Part as part
+use Rattle.tariff_tree.specs.Condition as tree
+use Rattle.tariff_tree.specs.Part as part
 
 -- an entry breaks none of the rules for numbers
 pub record IsGoodEntry (x : Entry) : Type 0 where

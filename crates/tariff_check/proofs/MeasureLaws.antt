@@ -3,7 +3,7 @@ use Rattle.std.proofs.Common.{[], ℕ, ◌<◌, ◌==◌, ◌||◌, ◌∙◌, �
 use Rattle.std.proofs.{Common.{get_or, length, map, refl, subst, suc, sym}, lemmas.Bool.Decides.{nat_tests}}
 use Rattle.std.proofs.lemmas.{List.{drop-map, get_or-map, length-map}, Nat.Gcd.{le_of_dvd}}
 use Rattle.std.proofs.lemmas.List.Elements.{All-cons, All-drop, All-head, All-nil, All-same, All-tail}
-use Rattle.tariff_syntax.specs.declared.tariff.{Item.TheVariants.{Rate}, RateLine.{RateLine}}
+use Rattle.tariff_tree.specs.declared.tariff.{Item.TheVariants.{Rate}, RateLine.{RateLine}}
 use Rattle.tariff_check.specs.{Common.{Entry, Line, TariffLine, entry_of, line_of, rate}, Lines.{is_for_nothing}}
 use Rattle.tariff_check.specs.Measure.{common_with, lcm_of, measures_of}
 use Rattle.tariff_check.proofs.LeastMultiples.{divides, lcm_is_least}

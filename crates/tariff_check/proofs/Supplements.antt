@@ -4,7 +4,7 @@ use Rattle.std.proofs.Common.{[], ℕ, ◌==◌, ◌∷◌, ◌≡◌, All, Bool
 use Rattle.std.proofs.{Common.{subst, true}, lemmas.{Bool.{ne_eqb}, List.Elements.{All-head, All-tail}}}
 use Rattle.tariff_check.specs.Common.{Entry, IsFromTo, IsWritable, IsWritableEntry, Line, Supplement, Tree, supplement}
 use Rattle.tariff_check.specs.Parts.{numbered_supplement, parts, supplement_numbered, supplement_of}
-use Rattle.tariff_syntax.specs.Part as part
+use Rattle.tariff_tree.specs.Part as part
 
 none_more : (n : ℕ) (entry : Entry) (rest : List (ℕ × Supplement)) → (IsFromTo 1 16 n → ⊥) → IsWritableEntry entry
     → supplement_numbered rest n ≡ None

@@ -1,12 +1,12 @@
 -- Made by tools/make/imports: what several files of this crate bring in of its types and of crates below.
 pub use Rattle.taxi_units.specs.{Calendar.{is_date}, Money.{largest_amount, largest_display_step}, Reading.{Gives}}
 pub use Rattle.drive_modes.specs.declared.meterage.Rounding.{Rounding}
-pub use Rattle.tariff_syntax.specs.{Choices.{choices, conditions_of, values_of}, Condition.{Condition, condition_of}}
-pub use Rattle.tariff_syntax.specs.Meaning.{at_hiring, choice_place, holds_if, initial_place, minimum_place, rate_place}
-pub use Rattle.tariff_syntax.specs.Tree.{Entry, Line, Tree, entry_of, holiday, initial, line_of, minimum, positions}
-pub use Rattle.tariff_syntax.specs.Tree.{rate, step, supplement, tree_of, when_part, zones}
-pub use Rattle.tariff_syntax.specs.{Writable.{IsFromTo, IsWritable, IsWritableEntry}, declared.tariff.Tariff.{Tariff}}
-pub use Rattle.tariff_syntax.specs.declared.{context.Context.{Context}, tariff.TariffLine.{TariffLine}}
+pub use Rattle.tariff_tree.specs.{Choices.{choices, conditions_of, values_of}, declared.tariff.TariffLine.{TariffLine}}
+pub use Rattle.tariff_tree.specs.{Condition.{Condition, condition_of}, Writable.{IsFromTo, IsWritable, IsWritableEntry}}
+pub use Rattle.tariff_tree.specs.Meaning.{at_hiring, choice_place, holds_if, initial_place, minimum_place, rate_place}
+pub use Rattle.tariff_tree.specs.Tree.{Entry, Line, Tree, entry_of, holiday, initial, line_of, minimum, positions, rate}
+pub use Rattle.tariff_tree.specs.{Tree.{step, supplement, tree_of, when_part, zones}, declared.tariff.Tariff.{Tariff}}
+pub use Rattle.tariff_tree.specs.declared.context.Context.{Context}
 pub use Rattle.tariff_check.specs.declared.{choice.{Choice.{Choice}, Choices.{Choices}}, resolving.Parts.{Parts}}
 pub use Rattle.tariff_check.specs.declared.choice.ChoiceKind.{ChoiceKind, TheVariants.{Initial, Minimum, Rate}}
 pub use Rattle.tariff_check.specs.declared.{choice.ChoiceLine.{ChoiceLine}, values.Supplement.{Supplement}}

@@ -3,7 +3,7 @@ use Rattle.std.specs.{BTreeSet.{insert_key}, List.{flat_map}, Ordering.{nat_cmp}
 use Rattle.std.specs.Prelude.{[], ℕ, ◌++◌, ◌+◌, ◌<◌, ◌==◌, ◌||◌, ◌↔◌, ◌∷◌, Contains, List, get_or, if◌then◌else◌}
 use Rattle.taxi_units.specs.Calendar.{date_place}
 use Rattle.tariff_check.specs.{Common.{Condition, Dimension, Distance, Line, Minute, MonthDay, Time}, Lines.{atoms_in}}
-use Rattle.tariff_syntax.specs.Condition as tree
+use Rattle.tariff_tree.specs.Condition as tree
 
 -- a range of days cuts where it begins in the year, and behind its end, but not at the year's begin and end
 abbrev pub day_cut : ℕ → List ℕ

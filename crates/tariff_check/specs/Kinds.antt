@@ -4,7 +4,7 @@ use Rattle.std.specs.Prelude.{[], ℕ, ◌^◌, ◌||◌, ◌∷◌, ◌≤◌, 
 use Rattle.tariff_check.specs.Common.{ChoiceKind, Choices, Condition, Entry, Initial, IsFromTo, Line, Minimum, Rate}
 use Rattle.tariff_check.specs.Common.{choices, initial, largest_amount, largest_display_step, minimum, rate, step}
 use Rattle.tariff_check.specs.declared.choice.Choice as program
-pub use Rattle.tariff_syntax.specs.Choices.{InitialNumbers, RateNumbers, initial_part, minimum_part, rate_part}
+pub use Rattle.tariff_tree.specs.Choices.{InitialNumbers, RateNumbers, initial_part, minimum_part, rate_part}
 
 -- what a line of a kind says is the amounts and the measures of a rate, the amount and the cover of an initial hire
 -- fee, or the amount of a minimum fare

@@ -3,7 +3,7 @@ use Rattle.std.specs.{List.{count_by, list_any}, Prelude.{if◌then◌else◌, i
 use Rattle.std.specs.Prelude.{[], ℕ, ◌&&◌, ◌++◌, ◌==◌, ◌||◌, ◌∷◌, ◌≡◌, Bool, List, None, Option, Some, false}
 use Rattle.tariff_check.specs.Common.{ChoiceKind, Condition, Entry, Line, holiday, is_date, positions, rate, step}
 use Rattle.tariff_check.specs.{Common.{supplement, zones}, Kinds.{is_great, is_of, kind_of}, Parts.{when_part}}
-use Rattle.tariff_syntax.specs.Condition as tree
+use Rattle.tariff_tree.specs.Condition as tree
 
 -- the atoms of a condition are its parts without `not`, `and` and `or`, in order
 abbrev pub atoms_of : Condition → List Condition

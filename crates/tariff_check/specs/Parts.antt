@@ -3,7 +3,7 @@ use Rattle.std.specs.List.{filter_map, list_any, slice_get}
 use Rattle.std.specs.{Option.{option_map, unwrap_or}, Prelude.{ℕ, ◌==◌, Bool, List, None, Option, Some, find, true}}
 use Rattle.tariff_check.specs.Common.{Entry, Line, Rounding, Supplement, holiday, positions, step, supplement, zones}
 use Rattle.tariff_check.specs.declared.values.DateNumbers as dates
-pub use Rattle.{tariff_syntax.specs.Tree.{when_part}, tariff_check.specs.Kinds.{minimums_of, rate_part, rates_of}}
+pub use Rattle.{tariff_tree.specs.Tree.{when_part}, tariff_check.specs.Kinds.{minimums_of, rate_part, rates_of}}
 pub use Rattle.tariff_check.specs.Kinds.{InitialNumbers, RateNumbers, initial_part, initials_of, minimum_part}
 
 -- a date has a year, a month and a date of the month

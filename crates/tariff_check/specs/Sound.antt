@@ -1,11 +1,11 @@
 -- Rules: what a sound tariff is made of.
 use Rattle.std.specs.Prelude.{ℕ, ◌^◌, ◌≡◌, ◌≤◌, All, IsTrue, Some, length, true}
-use Rattle.{tariff_syntax.specs.Writable.{IsWritableCondition}, tariff_check.specs.{Cells.{cells_of}, Lines.{atoms_in}}}
+use Rattle.{tariff_tree.specs.Writable.{IsWritableCondition}, tariff_check.specs.Common.{is_date, largest_display_step}}
+use Rattle.tariff_check.specs.{Cells.{cells_of}, Faults.{has_default}, Lines.{atoms_in}, Measure.{measure_of}}
 use Rattle.tariff_check.specs.Common.{ChoiceKind, Condition, Dimension, IsFromTo, Line, Rounding, Supplement, Tree}
-use Rattle.tariff_check.specs.{Common.{is_date, largest_display_step}, Faults.{has_default}, Measure.{measure_of}}
 use Rattle.tariff_check.specs.{Cuts.{count_of, most_cuts}, Kinds.{IsSoundSaid, initial_part, rate_part, said_by}}
 use Rattle.tariff_check.specs.Parts.{DateNumbers, holidays_of, positions_of, step_of, supplement_of, zones_of}
-use Rattle.tariff_syntax.specs.Condition as tree
+use Rattle.tariff_tree.specs.Condition as tree
 pub use Rattle.tariff_check.specs.Kinds.{IsSoundInitial, IsSoundRate}
 
 -- a supplement is sound if its amount is at most 1,000,000 and it may be added 1 to 99 times

@@ -8,7 +8,7 @@ use Rattle.tariff_check.specs.Kinds.{InitialNumbers, RateNumbers, Said, entry_wi
 use Rattle.tariff_check.specs.{Kinds.{rate_part, tests_of_kinds}, Parts.{step_of, step_part, zones_of, zones_part}}
 use Rattle.tariff_check.specs.Parts.{DateNumbers, holiday_part, holidays_of, parts, positions_of, positions_part}
 use Rattle.tariff_check.specs.declared.choice.Choice as program
-pub use Rattle.tariff_syntax.specs.{Choices.{Choice, choices, conditions_of, values_of}, Meaning.{place_of}}
+pub use Rattle.tariff_tree.specs.{Choices.{Choice, choices, conditions_of, values_of}, Meaning.{place_of}}
 pub use Rattle.tariff_check.specs.Parts.{numbered_supplement, supplement_numbered}
 
 -- the line numbers of choices are that of each, in order

@@ -14,7 +14,7 @@ use crate::measure::has_great_measure;
 use crate::parts::{has_default, has_holidays, positions, step_said, zones};
 use crate::rules::LineRule;
 use std::alloc::Global;
-use tariff_syntax::{Tariff, TariffLine};
+use tariff_tree::{Tariff, TariffLine};
 use taxi_units::NoMemory;
 
 /// All faults of a tariff, in the order of `CheckFault`: each kind of fault once, with the first line that has it. The

@@ -4,7 +4,7 @@ ghost use Rattle.tariff_check.specs.{Common.{Distance, Minute, MonthDay, Time, c
 ghost use Rattle.tariff_check.specs.Cuts.{atom_cuts, day_cut, minute_cut};
 
 use crate::fault::Dimension;
-use tariff_syntax::Cond;
+use tariff_tree::Cond;
 use taxi_units::date_place;
 
 /// The cuts of an atom in a dimension, at most two. What is no atom has none.

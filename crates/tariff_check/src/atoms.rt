@@ -4,7 +4,7 @@ ghost use Rattle.tariff_check.specs.{Common.{condition_of, entry_of}, Rules.{bre
 ghost use Rattle.tariff_check.specs.Lines.{atoms_in, atoms_of, is_after_nothing, is_undated, is_unknown};
 
 use crate::choice::condition;
-use tariff_syntax::{Cond, Item};
+use tariff_tree::{Cond, Item};
 use taxi_units::is_date;
 
 /// What is asked of the atoms of a condition.

@@ -12,7 +12,7 @@ use crate::resolving::{Parts, numbered};
 use crate::values::{DateNumbers, Supplement};
 use drive_modes::Rounding;
 use std::marker::Model;
-use tariff_syntax::{Cond, Context, Tariff, sat};
+use tariff_tree::{Cond, Context, Tariff, sat};
 
 /// A sound tariff, with its numbers and its parts.
 #[derive(Drop)]
@@ -25,7 +25,7 @@ pub struct Checked {
 impl Model for Checked {
     ghost use Rattle.{std.specs.Coded.{codes}, tariff_check.specs.Common.{IsWritable, Tariff, tree_of}};
     ghost use Rattle.tariff_check.specs.{Counted.{HasNumbers}, Resolved.{HasParts}, Sound.{HasSoundParts}};
-    ghost use Rattle.tariff_syntax.specs.contracts.condition.Cond as condition;
+    ghost use Rattle.tariff_tree.specs.contracts.condition.Cond as condition;
 
     ghost Value = { Tariff };
 

@@ -14,7 +14,7 @@ use crate::numbers::Numbers;
 use crate::parts::{has_holidays, positions, step, zones};
 use crate::resolving::{Parts, resolved};
 use std::alloc::Global;
-use tariff_syntax::{Tariff, TariffLine};
+use tariff_tree::{Tariff, TariffLine};
 
 /// Whether a tariff is sound, that is, has none of the faults. Its numbers have to be ones that a text can have. If it
 /// isn't sound, the answer is its first fault in the order of `CheckFault`, and the tariff is dropped. `NoMemory`:

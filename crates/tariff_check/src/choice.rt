@@ -7,7 +7,7 @@ ghost use Rattle.tariff_check.specs.{Resolved.{count_in, counted_choice, placed}
 
 use crate::checked::Checked;
 use std::alloc::Global;
-use tariff_syntax::{Cond, Context, InitialNumbers, Item, RateLine, RateNumbers, TariffLine};
+use tariff_tree::{Cond, Context, InitialNumbers, Item, RateLine, RateNumbers, TariffLine};
 use taxi_units::{LARGEST_AMOUNT, LARGEST_DISPLAY_STEP, NoMemory};
 
 /// The kinds of lines of which the first that holds in a context counts: rates, initial hire fees and minimum fares.

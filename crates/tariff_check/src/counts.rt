@@ -8,7 +8,7 @@ use crate::cells::Counts;
 use crate::cuts::cut_count;
 use crate::fault::{CheckFault, Dimension};
 use std::alloc::Global;
-use tariff_syntax::TariffLine;
+use tariff_tree::TariffLine;
 
 /// How many cuts some lines have in each dimension, or that they are too many.
 pub(crate) fn counts(alloc: Global, lines: &[TariffLine]) -> Result<Counts, CheckFault>

@@ -9,7 +9,7 @@ use crate::choice::condition;
 use crate::fault::Dimension;
 use std::alloc::{AllocError, Global};
 use std::collections::BTreeSet;
-use tariff_syntax::{Cond, Item, TariffLine};
+use tariff_tree::{Cond, Item, TariffLine};
 use taxi_units::NoMemory;
 
 /// The different numbers with which the conditions of a tariff compare in a dimension, in order: places in a leap year,

@@ -8,7 +8,7 @@ use crate::choice::ChoiceKind;
 use crate::fault::CheckFault;
 use crate::parts::has_default;
 use crate::rules::{LineRule, first_line};
-use tariff_syntax::TariffLine;
+use tariff_tree::TariffLine;
 
 /// The first fault of lines that have this many positions and zones, and whose display step is right.
 pub(crate) fn early_fault(lines: &[TariffLine], positions: u8, zones: u8) -> Option<CheckFault>

@@ -6,7 +6,7 @@ ghost use Rattle.tariff_check.specs.SoundTariff.{own_conditions, place_of};
 
 use crate::checked::Checked;
 use crate::choice::{Choice, ChoiceKind};
-use tariff_syntax::{Context, Item, TariffLine};
+use tariff_tree::{Context, Item, TariffLine};
 
 /// What a line of a tariff's frame says.
 #[derive(Clone, Copy)]

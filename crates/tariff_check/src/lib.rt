@@ -36,5 +36,5 @@ pub use soundness_laws::{
     measures_are_least, sound_tariffs_are_their_parts, sound_tariffs_have_sound_parts,
     supplements_are_numbered_to_16,
 };
-pub use tariff_syntax::{InitialNumbers, RateNumbers};
+pub use tariff_tree::{InitialNumbers, RateNumbers};
 pub use values::{DateNumbers, Initial, Supplement};

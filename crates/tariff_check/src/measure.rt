@@ -4,7 +4,7 @@ ghost use Rattle.tariff_check.specs.{Common.{Line, line_of}, Lines.{is_for_nothi
 
 use crate::multiples::common_measure;
 use crate::rules::is_for_nothing;
-use tariff_syntax::{Item, RateLine, TariffLine};
+use tariff_tree::{Item, RateLine, TariffLine};
 
 /// The greatest common measure that a tariff may have.
 const MOST: u128 = 1_000_000_000_000_000_000;

@@ -2,10 +2,10 @@
 ghost use Rattle.std.specs.{List.{count_by, list_any}, Prelude.{◌≡◌, map}};
 ghost use Rattle.tariff_check.specs.Common.{Line, entry_of, line_of};
 ghost use Rattle.tariff_check.specs.Lines.{excludes, is_alike, is_default_for, is_of_same, most_alike};
-ghost use Rattle.tariff_syntax.specs.Tree as Tree;
+ghost use Rattle.tariff_tree.specs.Tree as Tree;
 
 use crate::choice::{ChoiceKind, condition, is_of, kind_of};
-use tariff_syntax::{Item, TariffLine};
+use tariff_tree::{Item, TariffLine};
 
 /// Whether one of some lines excludes an item.
 pub(crate) fn some_excludes(item: &Item, before: &[TariffLine]) -> bool

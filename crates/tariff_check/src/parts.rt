@@ -8,7 +8,7 @@ use crate::choice::{ChoiceKind, condition, is_of};
 use crate::fault::CheckFault;
 use crate::found_lines::{FramePart, first_saying};
 use drive_modes::Rounding;
-use tariff_syntax::{Item, TariffLine};
+use tariff_tree::{Item, TariffLine};
 
 /// The display step and its rounding, of the first such line, or what is wrong with it.
 pub(crate) fn step(lines: &[TariffLine]) -> Result<(u64, Rounding), CheckFault>

@@ -7,7 +7,7 @@ ghost use Rattle.tariff_check.specs.{Parts.{holiday_part}, SoundTariff.{numbered
 use crate::choice::{ChoiceLine, Choices, put};
 use crate::values::{DateNumbers, Supplement};
 use std::alloc::Global;
-use tariff_syntax::{Item, TariffLine};
+use tariff_tree::{Item, TariffLine};
 use taxi_units::NoMemory;
 
 /// What the lines of a tariff say, kind by kind, and which choices they give, each in the order of the lines.

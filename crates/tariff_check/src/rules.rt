@@ -6,7 +6,7 @@ ghost use Rattle.tariff_check.specs.{Lines.{first_line, is_for_nothing, is_no_ho
 use crate::atoms::{AtomRule, item_breaks};
 use crate::choice::is_great;
 use crate::pairs::{count_alike, most_alike, some_excludes, some_is_default_for};
-use tariff_syntax::{Item, TariffLine};
+use tariff_tree::{Item, TariffLine};
 use taxi_units::is_date;
 
 /// What is asked of a line.

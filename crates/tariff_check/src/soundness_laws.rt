@@ -1,5 +1,5 @@
 //! What the definitions of faults and cuts mean.
-ghost use Rattle.{std.specs.List.{Contains, slice_get}, tariff_syntax.specs.Reads.{RiseInNumber}};
+ghost use Rattle.{std.specs.List.{Contains, slice_get}, tariff_tree.specs.Tree.{RiseInNumber}};
 ghost use Rattle.std.specs.Prelude.{[], ℕ, ◌++◌, ◌<◌, ◌↔◌, ◌∷◌, ◌≡◌, ◌≤◌, All, List, None, Some, length, true};
 ghost use Rattle.tariff_check.specs.{AllFaults.{all_faults}, Kinds.{initials_of, part_of, rates_of, said_by}};
 ghost use Rattle.tariff_check.specs.{Amounts.{HasAmountsOf, IsFitInitial, initial_by}, FoundLines.{StandsAtItsLine}};

@@ -1,8 +1,8 @@
 -- A form is its own form.
 use Rattle.std.{specs.Prelude.{Bool, codes, false, if◌then◌else◌, nat_lt, true}, proofs.lemmas.Bool.{le-ltb}}
 use Rattle.std.proofs.Common.{[], ℕ, ◌+◌, ◌∙◌, ◌∷◌, ◌≡◌, ◌≤◌, Err, List, Ok, Result, ap, length, refl, subst}
-use Rattle.tariff_syntax.specs.{Parsed.{tree_parsed}, Tree.{Line}}
-use Rattle.tariff_syntax.specs.{Printed.{entry_line, lines_text, number_line}, Renumbered.{renumbered, renumbered_from}}
+use Rattle.{tariff_tree.specs.Tree.{Line}, tariff_syntax.specs.Printed.{entry_line, lines_text, number_line}}
+use Rattle.tariff_syntax.specs.{Parsed.{tree_parsed}, Renumbered.{renumbered, renumbered_from}}
 use Rattle.tariff_syntax.proofs.Laws.{printed_forms_read_back, texts_are_parsed_as_they_read-tariff}
 use Rattle.tariff_commands.specs.Common.{Answer, Refusal, TooLong, Tree, printed_form, shows}
 use Rattle.tariff_commands.specs.Form.{form_answer, or_syntax, tree_in}

@@ -1,9 +1,9 @@
 -- The printed form of a text's tariff.
 use Rattle.std.proofs.{Common.{ℕ, ◌<◌, ◌≡◌, Err, List, Ok, ap, inl, inr, length, refl}, lemmas.Bool.{le-ltb, lt-ltb}}
-use Rattle.tariff_syntax.specs.{Reads.{IsParsed}, declared.{parsing.ParseFault.{ParseFault}, tariff.Tariff.{Tariff}}}
+use Rattle.{tariff_tree.specs.declared.tariff.Tariff.{Tariff}, tariff_commands.specs.FormSteps.{ended_unparsed}}
+use Rattle.tariff_syntax.specs.{Reads.{IsParsed}, declared.parsing.ParseFault.{ParseFault}}
 use Rattle.tariff_syntax.proofs.Laws.{texts_are_parsed_as_they_read-bad_line, texts_are_parsed_as_they_read-tariff}
 use Rattle.tariff_commands.specs.{Common.{IsMade, Syntax, TooLong, tree_of}, Form.{form_answer, tree_in}}
-use Rattle.tariff_commands.specs.FormSteps.{ended_unparsed}
 use Rattle.tariff_syntax.specs.declared.parsing.ParseFault.TheVariants as faults
 
 -- a text that was parsed reads as its tariff, or is too long, or has a first bad line

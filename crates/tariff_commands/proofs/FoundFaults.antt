@@ -3,10 +3,11 @@ use Rattle.std.{specs.{List.{slice_get}, Prelude.{◌⊎◌, IfOk}}, proofs.lemm
 use Rattle.std.proofs.Common.{[], ℕ, ◌<◌, ◌==◌, ◌∙◌, ◌∷◌, ◌≡◌, ◌≢◌, ◌≤◌, Err, List, Ok, Result, Some, ap, ap₂, arith}
 use Rattle.std.proofs.{Common.{false, inr, length, map, refl, sym, ⊎_elim}, lemmas.Bool.{le-ltb, lt-ltb}}
 use Rattle.outside.specs.{Reading.{LeavesOthers}, declared.files.Files.{Ghosts as FileGhosts}}
-use Rattle.tariff_syntax.specs.{BadLines.{bad_lines}, Parsed.{tree_parsed}, declared.tariff.Tariff.{Tariff}}
-use Rattle.{tariff_syntax.specs.Reads.{IsParsed}, tariff_check.proofs.Laws.{all_faults_begin_with_the_first-first}}
+use Rattle.{tariff_tree.specs.declared.tariff.Tariff.{Tariff}, tariff_syntax.specs.BadLines.{bad_lines}}
+use Rattle.{tariff_syntax.specs.{Parsed.{tree_parsed}, Reads.{IsParsed}}, call_ends.specs.LastLine.{status_of}}
 use Rattle.tariff_syntax.proofs.Laws.{texts_are_parsed_as_they_read-bad_line, texts_are_parsed_as_they_read-tariff}
-use Rattle.call_ends.specs.{LastLine.{status_of}, Making.{is_plain}, Tariffs.{sound_in}, declared.made.Made.{Made}}
+use Rattle.{tariff_check.proofs.Laws.{all_faults_begin_with_the_first-first}, call_ends.specs.declared.made.Made.{Made}}
+use Rattle.call_ends.specs.{Making.{is_plain}, Tariffs.{sound_in}}
 use Rattle.call_ends.{specs.Reads.{GoesTo, ReadsWord}, proofs.Laws.{ends_apart, goes-none, goes-on, same_fault}}
 use Rattle.tariff_commands.specs.{Check.{check_answer}, declared.faults.Found.{Found, TheVariants.{Faults, Sound}}}
 use Rattle.tariff_commands.specs.Common.{Answer, CheckFault, Ended, IsMade, Refusal, Syntax, TextFault, TooLong, Tree}

@@ -1,5 +1,5 @@
 //! The command `faults`.
-ghost use Rattle.{std.specs.List.{Contains, slice_get}, tariff_syntax.specs.Writable.{IsWritable}};
+ghost use Rattle.{std.specs.List.{Contains, slice_get}, tariff_tree.specs.Writable.{IsWritable}};
 ghost use Rattle.std.specs.Prelude.{[], ℕ, ◌++◌, ◌<◌, ◌↔◌, ◌≡◌, ◌≤◌, Err, IfOk, List, OnOk, Some, length, map};
 ghost use Rattle.tariff_syntax.specs.Formless.{HasNoForm};
 ghost use Rattle.tariff_commands.specs.{Check.{check_answer}, Common.{end_made, tariff_in, text_made, tree_of}};
@@ -12,7 +12,8 @@ use outside::{Files, Printer, STORE_SIZE};
 use std::alloc::{AllocError, Global};
 use std::sync::ledger::Ledger;
 use tariff_check::{CheckFault, check, faults};
-use tariff_syntax::{ParseFault, Tariff, bad_lines, parse};
+use tariff_syntax::{ParseFault, bad_lines, parse};
+use tariff_tree::Tariff;
 use taxi_units::{NoMemory, Steps};
 
 /// What is found of a tariff.

@@ -8,7 +8,8 @@ use call_ends::{Ended, Made, Refusal, print_made, refused_by, text_of_word};
 use outside::{Files, Printer, STORE_SIZE};
 use std::alloc::Global;
 use std::sync::ledger::Ledger;
-use tariff_syntax::{ParseFault, Tariff, parse, print};
+use tariff_syntax::{ParseFault, parse, print};
+use tariff_tree::Tariff;
 use taxi_units::Steps;
 
 /// Prints the printed form of the tariff of word 1, sound or not.

@@ -1,7 +1,7 @@
 -- What is so in a context is so in the one of the grid that stands for it.
 use Rattle.std.{specs.Cmp.Derive.{both_true}, proofs.{Common.{sym, true}, lemmas.Bool.{eq-eqb, eqb-true}}}
 use Rattle.std.proofs.Common.{ℕ, ◌||◌, ◌∙◌, ◌≡◌, ◌≤◌, Bool, Option, ap, arith, eqb, false, if◌then◌else◌, is_some, refl}
-use Rattle.{tariff_syntax.specs.Meaning.{at_hiring, choice_place}, tariff_check.specs.Kinds.{part_of}}
+use Rattle.{tariff_tree.specs.Meaning.{at_hiring, choice_place}, tariff_check.specs.Kinds.{part_of}}
 use Rattle.tariff_calendar.{specs.Range.{IsSameCell}, proofs.Laws.{cuts_decide_conditions-first}}
 use Rattle.tariff_compare.specs.Common.{ChoiceKind, Context, Counts, Differs, MeterContext, Question, Tree, lists_of}
 use Rattle.tariff_compare.specs.{Contexts.{HasTables, IsMeterContext, context_at}, Kinds.{is_hiring, place_at}}

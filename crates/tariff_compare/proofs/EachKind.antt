@@ -3,7 +3,7 @@
 use Rattle.std.proofs.Common.{[], ℕ, ◌&&◌, ◌+◌, ◌-◌, ◌∙◌, ◌∷◌, ◌≡◌, Bool, List, None, Option, Some, ap, arith, eqb}
 use Rattle.std.proofs.Common.{false, find, get_or, if◌then◌else◌, inl, inr, is_some, not, refl, true}
 use Rattle.{std.proofs.lemmas.Bool.{eqb-true, false≢true, ne_eqb}, tariff_compile.specs.Tables.{lines_at}}
-use Rattle.{tariff_syntax.specs.Meaning.{initial_place, minimum_place, rate_place}, tariff_check.specs.Faults.{IsSound}}
+use Rattle.{tariff_tree.specs.Meaning.{initial_place, minimum_place, rate_place}, tariff_check.specs.Faults.{IsSound}}
 use Rattle.{tariff_check.specs.Amounts.{initial_by, place_number}, tariff_compare.specs.Sides.{in_force_by, side_of}}
 use Rattle.tariff_check.proofs.Laws.{lines_that_hold_are_there-initial, lines_that_hold_are_there-rate}
 use Rattle.tariff_compare.specs.Common.{CellLines, ChoiceKind, Context, Initial, MeterContext, Minimum, Rate}

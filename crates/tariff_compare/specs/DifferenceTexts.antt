@@ -1,6 +1,6 @@
 -- Rules: the text of what differs first between two tariffs.
 use Rattle.std.specs.Prelude.{[], ℕ, ◌++◌, List, None, Option, Some, codes, decimal}
-use Rattle.tariff_syntax.specs.{Printed.{entry_line, number_line}, Tree.{Line, without_when}}
+use Rattle.{tariff_tree.specs.Tree.{Line, without_when}, tariff_syntax.specs.Printed.{entry_line, number_line}}
 use Rattle.{tariff_check.specs.FoundLines.{frame_line, line_in_force}, tariff_compare.specs.Common.{Zones}}
 use Rattle.tariff_compare.specs.Common.{Decimals, Difference, In, IsFromTo, Positions, Rounded, Step, Supplement, Tree}
 use Rattle.tariff_compare.specs.{Contexts.{context_at}, Kinds.{part_word}, Texts.{context_text}}

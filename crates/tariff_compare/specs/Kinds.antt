@@ -2,7 +2,7 @@
 -- names, what two tariffs differ in there, and the words of a kind.
 use Rattle.std.specs.{Option.{unwrap_or}, Prelude.{get_or, if◌then◌else◌, not}}
 use Rattle.std.specs.Prelude.{[], ℕ, ◌&&◌, ◌*◌, ◌-◌, ◌==◌, ◌||◌, ◌∷◌, Bool, List, None, Option, Some, codes, find}
-use Rattle.{tariff_syntax.specs.Meaning.{rate_place}, tariff_check.specs.Amounts.{initial_by}}
+use Rattle.{tariff_tree.specs.Meaning.{rate_place}, tariff_check.specs.Amounts.{initial_by}}
 use Rattle.tariff_compare.specs.Common.{CellLines, ChoiceKind, Context, Initial, MeterContext, Minimum, Rate}
 use Rattle.tariff_compare.specs.{Common.{RateNumbers, Tree, rates_of}, Contexts.{context_at}}
 use Rattle.tariff_check.specs.declared.values.Initial as fees

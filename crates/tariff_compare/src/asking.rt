@@ -10,7 +10,7 @@ use crate::question::Question;
 use crate::side::Side;
 use tariff_check::ChoiceKind;
 use tariff_compile::Tables;
-use tariff_syntax::Context;
+use tariff_tree::Context;
 
 /// Whether the answer to a question is yes in a context.
 pub(crate) fn is_met(

@@ -1,6 +1,6 @@
 //! The line of a tariff that says what differs.
 ghost use Rattle.std.specs.{List.{list_any}, Prelude.{◌&&◌, ◌==◌, ◌≡◌}};
-ghost use Rattle.{taxi_units.specs.Reading.{Gives}, tariff_syntax.specs.Tree.{line_of}};
+ghost use Rattle.{taxi_units.specs.Reading.{Gives}, tariff_tree.specs.Tree.{line_of}};
 ghost use Rattle.{tariff_check.specs.Parts.{DateNumbers}, tariff_compare.specs.Common.{IsFromTo, tree_of}};
 ghost use Rattle.tariff_compare.specs.{Contexts.{context_at}, DifferenceTexts.{IsDatedDifference, line_of_difference}};
 
@@ -10,7 +10,7 @@ use crate::meter_context::MeterContext;
 use drive_modes::Constant;
 use interval_clock::{CalendarDate, date_of_day};
 use tariff_check::{Checked, DateNumbers, FramePart};
-use tariff_syntax::{Context, TariffLine};
+use tariff_tree::{Context, TariffLine};
 use taxi_units::date_place;
 
 /// The line of a tariff that says what differs under a constant.

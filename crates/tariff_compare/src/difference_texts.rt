@@ -1,6 +1,6 @@
 //! The text of what differs first between two tariffs.
 ghost use Rattle.std.specs.Prelude.{[], ◌++◌, ◌≡◌, ◌≤◌, IfOk, OnOk, Some, decimal};
-ghost use Rattle.tariff_syntax.specs.Tree.{line_of};
+ghost use Rattle.tariff_tree.specs.Tree.{line_of};
 ghost use Rattle.tariff_compare.specs.{Common.{tree_of}, DifferenceTexts.{line_text, part_text, side_text}};
 ghost use Rattle.tariff_compare.specs.DifferenceTexts.{IsDatedDifference, IsDatedOrNone, comparison_text, default_text};
 
@@ -11,7 +11,8 @@ use crate::texts::{push_context, push_decimal};
 use drive_modes::Constant;
 use std::alloc::{AllocError, Global};
 use tariff_check::Checked;
-use tariff_syntax::{TariffLine, print_line};
+use tariff_syntax::print_line;
+use tariff_tree::TariffLine;
 use taxi_units::NoMemory;
 
 /// The text of what differs between two tariffs under a constant. It is `SAME`, or `DIFFERENT` with what differs and

@@ -10,7 +10,7 @@ use crate::side::Side;
 use std::alloc::AllocError;
 use tariff_check::{ChoiceKind, Initial};
 use tariff_compile::CellLines;
-use tariff_syntax::Context;
+use tariff_tree::Context;
 
 /// Whether a line of a kind can count in a context.
 pub(crate) fn is_asked(kind: ChoiceKind, m: &MeterContext) -> bool

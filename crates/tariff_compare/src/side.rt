@@ -9,7 +9,7 @@ use std::alloc::Global;
 use std::marker::Model;
 use tariff_check::{Checked, Initial, RateNumbers};
 use tariff_compile::{Tables, compile};
-use tariff_syntax::Context;
+use tariff_tree::Context;
 use taxi_units::NoMemory;
 
 /// The tables of a tariff, and its rates.

@@ -5,7 +5,7 @@ use Rattle.std.proofs.{Math.Nat.{mul-pos, mul_assoc}, lemmas.Option.{slice_get-g
 use Rattle.std.proofs.lemmas.{Bool.{lt-ltb}, List.FromFn.{get_or-map-range_with_len, length-map-range_with_len}}
 use Rattle.std.proofs.lemmas.List.{get_or-map, get_or_default, length-map, Elements.{All-map, All-weaker}}
 use Rattle.{taxi_units.specs.Counted.{IsElement}, interval_clock.specs.Calendar.{IsDateOf}}
-use Rattle.{tariff_syntax.specs.Writable.{IsFromTo}, tariff_check.specs.Parts.{has_holidays, initials_of, rates_of}}
+use Rattle.{tariff_tree.specs.Writable.{IsFromTo}, tariff_check.specs.Parts.{has_holidays, initials_of, rates_of}}
 use Rattle.tariff_check.specs.{Cells.{cells_of, day_kinds}, Cuts.{count_of, cuts_of}, Measure.{measure_of}}
 use Rattle.tariff_check.specs.declared.fault.Dimension.TheVariants.{Distance, Minute, MonthDay, Time}
 use Rattle.tariff_check.proofs.Laws.{lines_that_hold_are_there-initial, lines_that_hold_are_there-rate}

@@ -2,7 +2,7 @@
 use Rattle.std.proofs.Common.{ℕ, ◌<◌, ◌==◌, ◌∙◌, ◌≡◌, ◌≤◌, Bool, Option, ap, arith, false, get_or, if◌then◌else◌, min}
 use Rattle.std.proofs.{Common.{refl, sym, true}, Math.Path.{fun_ext}, lemmas.List.FromFn.{get_or-map-range_with_len}}
 use Rattle.{std.proofs.Math.Nat.{min-eq_right}, taxi_units.specs.Time.{longest_trip}}
-use Rattle.{tariff_syntax.specs.Meaning.{choice_place}, tariff_check.specs.declared.choice.ChoiceKind.{ChoiceKind}}
+use Rattle.{tariff_tree.specs.Meaning.{choice_place}, tariff_check.specs.declared.choice.ChoiceKind.{ChoiceKind}}
 use Rattle.tariff_check.specs.{Kinds.{is_asked_amid, part_of}, Parts.{has_holidays}}
 use Rattle.tariff_calendar.specs.{Lists.{AreOrdered}, Range.{IsSameCell}}
 use Rattle.tariff_calendar.proofs.Laws.{counts_are_places-few, cuts_decide_conditions-first, lists_are_ordered-ordered}

@@ -5,7 +5,7 @@ use Rattle.std.proofs.Common.{[], ℕ, ◌+◌, ◌<◌, ◌^◌, ◌∙◌, ◌
 use Rattle.std.proofs.Common.{codes, decimal, false, get_or, length, refl, subst, suc, sym, true, zero}
 use Rattle.std.proofs.lemmas.{List.Elements.{All-get_or, All-head, All-tail}, Option.{slice_get-get_or}}
 use Rattle.std.proofs.lemmas.List.FromFn.{get_or-map-range_with_len, length-map-range_with_len}
-use Rattle.{tariff_syntax.specs.Meaning.{minimum_place}, tariff_check.proofs.Laws.{lines_that_hold_are_there-there}}
+use Rattle.{tariff_tree.specs.Meaning.{minimum_place}, tariff_check.proofs.Laws.{lines_that_hold_are_there-there}}
 use Rattle.tariff_check.specs.{Kinds.{IsSoundInitial}, declared.choice.ChoiceKind.TheVariants.{Initial, Minimum}}
 use Rattle.{tariff_check.specs.Parts.{minimums_of}, tariff_compile.proofs.ShortRows.{joined_short, row_in-short}}
 use Rattle.tariff_check.proofs.Laws.{lines_that_hold_are_there-initial, lines_that_hold_are_there-rate}

@@ -7,7 +7,7 @@ use Rattle.taxi_units.specs.Calendar.{date_place, month_lengths}
 use Rattle.tariff_check.specs.{Cuts.{all_cuts, atom_cuts, cuts_of, day_cut, minute_cut, with_each}, Lines.{atoms_in}}
 use Rattle.tariff_check.specs.{Sound.{IsGoodAtom}, declared.fault.Dimension.{Dimension, TheVariants.{Minute, MonthDay}}}
 use Rattle.tariff_compile.specs.{Cells.{HasLowCuts}, Common.{Condition, HasSoundParts, Line, Tree, lists_of}}
-use Rattle.tariff_syntax.specs.Condition as tree
+use Rattle.tariff_tree.specs.Condition as tree
 
 abbrev IsLow : ℕ → Type 0
 IsLow cut = cut < 2 ^ 16

@@ -2,7 +2,7 @@
 use Rattle.std.{specs.List.{position_from, slice_get}, proofs.lemmas.Grind.{common_steps}}
 use Rattle.std.proofs.Common.{[], ℕ, ◌++◌, ◌+◌, ◌<◌, ◌∙◌, ◌∷◌, ◌≡◌, ◌≤◌, Bool, List, Option, Some, ap, arith, drop}
 use Rattle.std.proofs.{Common.{drop-cons, false, get_or, length, map, refl, suc, sym, zero}, lemmas.List.{append-nil}}
-use Rattle.{tariff_syntax.specs.Meaning.{place_of}, tariff_compile.specs.Marks.{MarkEach, MarksThose, is_marked}}
+use Rattle.{tariff_tree.specs.Meaning.{place_of}, tariff_compile.specs.Marks.{MarkEach, MarksThose, is_marked}}
 use Rattle.tariff_compile.specs.Common.{Choice, Condition, Context, Line, Marks, holds_if, own_conditions, when_at}
 
 -- those of the first contexts are marked that pass a test, and no later place is

@@ -1,9 +1,9 @@
 -- What is the same in contexts, and what has one answer in them.
 use Rattle.{std.{specs.List.{slice_get}, proofs.lemmas.Bool.{cases_eq}}, taxi_units.specs.Calendar.{date_of_place}}
 use Rattle.std.proofs.Common.{ℕ, ◌+◌, ◌<◌, ◌==◌, ◌∙◌, ◌≡◌, List, Some, ap, arith, inl, inr, nat_le, subst, sym, true}
-use Rattle.{tariff_syntax.specs.Meaning.{is_in_time, is_on, is_within}, tariff_compile.specs.Alike.{Agree, asks_alike}}
-use Rattle.tariff_compile.specs.{Common.{Condition, Context, holds}, declared.alike.Alike.{Alike}}
-use Rattle.tariff_syntax.specs.Condition as tree
+use Rattle.{tariff_tree.specs.Meaning.{is_in_time, is_on, is_within}, tariff_compile.specs.declared.alike.Alike.{Alike}}
+use Rattle.tariff_compile.specs.{Alike.{Agree, asks_alike}, Common.{Condition, Context, holds}}
+use Rattle.tariff_tree.specs.Condition as tree
 
 -- what asks for a part in common has one answer
 pub one_answer : (alike : Alike) (c : Condition) (x y : Context) → asks_alike alike c ≡ true → Agree alike x y

@@ -1,7 +1,7 @@
 -- For proofs: what contexts have in common, so that a condition is asked once for all of them.
 use Rattle.std.specs.{List.{slice_get}, Prelude.{ℕ, ◌≡◌, Bool, List, Some, false, true}}
 use Rattle.tariff_compile.specs.{Common.{Condition, Context}, declared.alike.Alike.{Alike}}
-use Rattle.tariff_syntax.specs.Condition as tree
+use Rattle.tariff_tree.specs.Condition as tree
 
 -- two contexts agree if each part that is named alike is the same in both
 pub record Agree (alike : Alike) (x y : Context) : Type 0 where

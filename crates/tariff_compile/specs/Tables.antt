@@ -3,7 +3,7 @@ use Rattle.{std.specs.{List.{range_with_len, slice_get}, Option.{unwrap_or}}, ta
 use Rattle.std.specs.Prelude.{ℕ, ◌*◌, ◌+◌, ◌/◌, ◌<◌, ◌^◌, ◌∷◌, ◌≡◌, ◌≤◌, List, Option, Some, get_or, if◌then◌else◌, map}
 use Rattle.{taxi_units.specs.Money.{largest_display_step}, tariff_check.specs.DisplayStep.{display_step}}
 use Rattle.drive_modes.specs.{Constant.{greatest_constant, least_constant}, declared.meterage.Rounding.{Rounding}}
-use Rattle.tariff_syntax.specs.{Meaning.{choice_place, initial_place, minimum_place, rate_place}, Writable.{IsFromTo}}
+use Rattle.tariff_tree.specs.{Meaning.{choice_place, initial_place, minimum_place, rate_place}, Writable.{IsFromTo}}
 use Rattle.tariff_check.specs.{Cells.{day_kinds}, Measure.{measure_of}}
 use Rattle.tariff_check.specs.{Kinds.{is_asked_amid, part_of}, SoundTariff.{SoundTariff, sound_of, values_of}}
 use Rattle.tariff_check.specs.{Parts.{initials_of, minimums_of, rates_of}, SoundLookups.{place_in_force}}

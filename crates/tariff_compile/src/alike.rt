@@ -2,7 +2,7 @@
 ghost use Rattle.std.specs.Prelude.{◌&&◌, ◌≡◌};
 ghost use Rattle.tariff_compile.specs.{Alike.{Agree, AllAgree, asks_alike}, Common.{Context, condition_of}};
 
-use tariff_syntax::{Cond, Context};
+use tariff_tree::{Cond, Context};
 
 /// Which parts are the same in all of some contexts. A condition that asks for one of them alone has one answer.
 #[derive(Clone, Copy)]

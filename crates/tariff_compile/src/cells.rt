@@ -13,7 +13,7 @@ use drive_modes::Constant;
 use std::alloc::Global;
 use tariff_calendar::Cuts;
 use tariff_check::{Checked, Choice};
-use tariff_syntax::Context;
+use tariff_tree::Context;
 use taxi_units::NoMemory;
 
 /// The lines of a cell: the places of its rate and its initial hire fee, from 0, and the number of its minimum fare,

@@ -8,7 +8,7 @@ use drive_modes::Constant;
 use std::sync::ledger::Ledger;
 use tariff_calendar::{Cuts, count_at_most};
 use tariff_check::Dimension;
-use tariff_syntax::Context;
+use tariff_tree::Context;
 use taxi_units::{LONGEST_TRIP, Steps};
 
 /// The context of a cell at the beginning of each band.

@@ -8,7 +8,7 @@ use crate::alike::Alike;
 use crate::marks::Marks;
 use std::alloc::Global;
 use tariff_check::{Checked, Choice};
-use tariff_syntax::{Cond, Context, sat};
+use tariff_tree::{Cond, Context, sat};
 use taxi_units::NoMemory;
 
 /// The marks of each choice of a tariff, in order: the contexts in which it holds.

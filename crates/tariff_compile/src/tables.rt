@@ -19,7 +19,7 @@ use std::marker::Model;
 use std::sync::ledger::Ledger;
 use tariff_calendar::Cuts;
 use tariff_check::{Checked, Initial, InitialNumbers, Supplement};
-use tariff_syntax::Context;
+use tariff_tree::Context;
 use taxi_units::{Counted, NoMemory, Steps};
 
 /// The tables of a sound tariff under a constant: its cuts, what each rate weighs, its initial hire fees, minimum fares

@@ -4,14 +4,14 @@ use Rattle.{std.proofs.Common.{refl, subst, suc, zero}, taxi_units.proofs.Laws.{
 use Rattle.{taxi_units.specs.Number.{figure_in}, tariff_syntax.proofs.FigureLaws.{minute_again, minute_is, pair_is}}
 use Rattle.tariff_syntax.specs.Atom.{after_first, atom_named, by_unit, dates_first, days_first, numbered_first}
 use Rattle.tariff_syntax.specs.{Atom.{time_first, until_weekday, weekday_first, weekday_read}, Figure.{number_first}}
-use Rattle.tariff_syntax.specs.{Common.{day_name}, Grammar.{Reader, factor_by}, Token.{Token, figure, sign, word}}
-use Rattle.tariff_syntax.specs.Condition.{Condition, after_distance, after_time, and, date, day, holiday, not, or}
-use Rattle.tariff_syntax.specs.{Condition.{position, time, zone}, Words.{after_sign, after_word, word_first}}
+use Rattle.tariff_syntax.specs.Common.{Condition, after_distance, after_time, and, date, day, day_name, holiday, not}
+use Rattle.tariff_syntax.specs.{Common.{or, position, time, zone}, Words.{after_sign, after_word, word_first}}
 use Rattle.tariff_syntax.specs.Figure.{amount_first, amount_read, date_first, date_read, minute_first, minute_read}
 use Rattle.tariff_syntax.specs.Forms.{AreWeekdays, IsAmount, IsAtom, IsDate, IsMinute, IsNumber, IsWeekday}
-use Rattle.tariff_syntax.{specs.Weight.{weight}, proofs.Tools.{by_word, some_same, word_first_here, word_first_is}}
+use Rattle.tariff_syntax.specs.{Grammar.{Reader, factor_by}, Token.{Token, figure, sign, word}, Weight.{weight}}
 use Rattle.tariff_syntax.proofs.FigureLaws.{amount_again, amount_is, date_again, figure_as_here, figure_as_is}
 use Rattle.tariff_syntax.proofs.Tools.{after_sign_here, after_sign_is, after_word_here, after_word_is, bind_some}
+use Rattle.tariff_syntax.proofs.Tools.{by_word, some_same, word_first_here, word_first_is}
 
 pub number_is : (least most : ℕ) (ts : List Token) (x : ℕ × List Token) → number_first least most ts ≡ Some x
     → (f : List ℕ) × (ts ≡ figure f ∷ x.1) × IsNumber least most f x.0

@@ -3,11 +3,11 @@ use Rattle.std.{specs.List.{AllPairs, Contains, slice_get}, proofs.lemmas.List.E
 use Rattle.std.proofs.Common.{[], ℕ, ◌+◌, ◌<◌, ◌↔◌, ◌∙◌, ◌∷◌, ◌≡◌, ◌≤◌, ◌⊎◌, All, Bool, Err, List, None, Ok, Option}
 use Rattle.std.proofs.Common.{Result, Some, ap, arith, false, if◌then◌else◌, inl, inr, refl, subst, suc, sym, true}
 use Rattle.tariff_syntax.specs.{BadLines.{bad_below, bad_from, bad_lines, is_bad}, Items.{decimals_read, item_read}}
-use Rattle.tariff_syntax.specs.{Formless.{HasFormless, HasFormlessBelow, HasNoForm, IsFormless}, Parses.{bad_in}}
+use Rattle.tariff_syntax.specs.{Common.{Entry, Line, Tree}, Reads.{IsFirstBadLine, Reads}, TokenReading.{tokens_of}}
+use Rattle.tariff_syntax.specs.{Formless.{HasFormless, HasFormlessBelow, HasNoForm, IsFormless}, TextLines.{lines_of}}
 use Rattle.tariff_syntax.specs.Parsed.{entries_read, heading_by, heading_read, put_entry, tree_parsed, tree_with}
-use Rattle.tariff_syntax.{specs.{Reads.{IsFirstBadLine, Reads}, TextLines.{lines_of}}, proofs.TokenLaws.{spelled_alone}}
+use Rattle.tariff_syntax.{specs.Parses.{bad_in}, proofs.{NumberLaws.{pairs_cons}, TokenLaws.{spelled_alone}}}
 use Rattle.tariff_syntax.specs.Token.{Token}
-use Rattle.tariff_syntax.{specs.{TokenReading.{tokens_of}, Tree.{Entry, Line, Tree}}, proofs.NumberLaws.{pairs_cons}}
 use Rattle.tariff_syntax.proofs.ReadsLaws.{decimals_is, empty_is, first_bad_exactly, head_empty, head_other, head_says}
 use Rattle.tariff_syntax.proofs.ReadsLaws.{none_said, reads_exactly, says_again, says_decimals, says_is}
 

@@ -1,13 +1,13 @@
 -- What is a condition is read.
 use Rattle.std.proofs.Common.{[], ℕ, ◌++◌, ◌+◌, ◌-◌, ◌∙◌, ◌∷◌, ◌≡◌, ◌≤◌, List, None, Some, ap, append_assoc, arith}
 use Rattle.{std.proofs.Common.{codes, refl, sym}, tariff_syntax.specs.IsCondition.{parentheses, size_of}}
-use Rattle.tariff_syntax.specs.{Condition.{Condition}, Weight.{weight}}
+use Rattle.tariff_syntax.specs.{Common.{Condition}, Weight.{weight}}
 use Rattle.tariff_syntax.specs.Grammar.{and_joined, chain_on, condition_by, factor_first, or_joined, term_by}
 use Rattle.tariff_syntax.specs.IsCondition.{IsCondition, atom, conjunction, disjunction, negation, one_factor, one_term}
 use Rattle.tariff_syntax.specs.{PrintedCondition.{Level, factor, term, whole}, Words.{after_sign, after_word}}
 use Rattle.tariff_syntax.{specs.Token.{Token, sign, word}, proofs.Tools.{after_sign_here, after_word_here}}
 use Rattle.tariff_syntax.proofs.{AtomLaws.{atom_again, atom_weighs}, GrammarSteps.{chain_ends, chain_goes, factor_step}}
-use Rattle.tariff_syntax.specs.Condition as tree
+use Rattle.tariff_tree.specs.Condition as tree
 
 pub weight-append : (xs ys : List Token) → weight (xs ++ ys) ≡ weight xs + weight ys
 weight-append [] ys = omega arith

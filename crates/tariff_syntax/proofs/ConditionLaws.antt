@@ -1,14 +1,14 @@
 -- Conditions are read by their grammar.
 use Rattle.std.{specs.Str.{bytes_eq}, proofs.Common.{inr, refl, subst, suc, sym, true, zero}}
 use Rattle.std.proofs.Common.{[], ℕ, ◌++◌, ◌∙◌, ◌∷◌, ◌≡◌, List, None, Option, Some, ap, append_assoc, arith, codes, inl}
-use Rattle.tariff_syntax.{specs.{Atom.{atom_named}, Condition.{Condition}}, proofs.AtomLaws.{atom_is}}
+use Rattle.tariff_syntax.{specs.{Atom.{atom_named}, Common.{Condition}}, proofs.AtomLaws.{atom_is}}
 use Rattle.tariff_syntax.specs.Grammar.{Reader, and_joined, chain_on, closed_after, condition_by, factor_by}
 use Rattle.tariff_syntax.specs.{Grammar.{factor_first, negated, or_joined, term_by}, IsCondition.{parentheses}}
 use Rattle.tariff_syntax.specs.IsCondition.{IsCondition, atom, conjunction, disjunction, negation, one_factor, one_term}
 use Rattle.tariff_syntax.specs.{PrintedCondition.{Level, factor, term, whole}, Token.{Token, figure, sign, word}}
 use Rattle.tariff_syntax.{specs.Words.{after_sign, after_word}, proofs.GrammarSteps.{chain_ends, chain_goes}}
 use Rattle.tariff_syntax.proofs.Tools.{after_sign_is, after_word_is, bind_some, chosen, same_text, some_same}
-use Rattle.tariff_syntax.specs.Condition as tree
+use Rattle.tariff_tree.specs.Condition as tree
 
 -- a reader finds conditions of a place
 abbrev Finds : Level → Reader → Type 0

@@ -1,8 +1,7 @@
 -- Reading a condition, a step at a time.
 use Rattle.std.proofs.Common.{ℕ, ◌+◌, ◌<◌, ◌≡◌, List, None, Option, Some, arith, refl, subst, suc, zero}
-use Rattle.tariff_syntax.specs.{Built.{Builds, Built, IsBuilt, IsFront}, Common.{◌>>=◌}, Condition.{Condition}}
-use Rattle.tariff_syntax.specs.{Grammar.{Reader, chain_on, condition_by, factor_by, factor_first}, Words.{after_word}}
-use Rattle.tariff_syntax.specs.Token.{Token}
+use Rattle.tariff_syntax.specs.{Built.{Builds, Built, IsBuilt, IsFront}, Common.{◌>>=◌, Condition}, Words.{after_word}}
+use Rattle.tariff_syntax.specs.{Grammar.{Reader, chain_on, condition_by, factor_by, factor_first}, Token.{Token}}
 
 pub none_deep : (d : ℕ) (ts : List Token) → d ≡ 0 → factor_first d ts ≡ None
 unfolding factor_first

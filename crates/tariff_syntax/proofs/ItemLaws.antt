@@ -1,23 +1,23 @@
 -- What a line says is read from its form.
 use Rattle.std.proofs.Common.{[], ℕ, ◌++◌, ◌∙◌, ◌∷◌, ◌≡◌, ◌≤◌, List, None, Option, Some, ap, arith, codes, inl, inr}
 use Rattle.std.proofs.{Common.{refl, subst, sym}, lemmas.{Bool.{le-leb, leb-true}, List.{append-nil}}}
-use Rattle.tariff_syntax.{specs.{Common.{Ahead, Behind, Rounding}, Part.{Part}}, proofs.ConditionLaws.{condition_found}}
-use Rattle.tariff_syntax.specs.Condition.{Condition}
+use Rattle.{tariff_tree.specs.Tree.{holiday}, tariff_syntax.specs.Words.{after_sign, after_word, word_first}}
+use Rattle.tariff_syntax.specs.Common.{Ahead, Behind, Condition, Entry, Part, Rounding, initial, minimum, parts_of}
+use Rattle.tariff_syntax.specs.{Common.{positions, rate, step, supplement, word_of, zones}, IsCondition.{IsCondition}}
 use Rattle.tariff_syntax.specs.{Figure.{amount_first, number_first, year_date_first, year_date_read}, Forms.{IsNumber}}
 use Rattle.tariff_syntax.specs.Grammar.{bounded_condition, condition_alone, condition_by, factor_first, when_read}
-use Rattle.tariff_syntax.specs.{IsCondition.{IsCondition}, Printed.{rounding_word}, PrintedCondition.{whole}}
 use Rattle.tariff_syntax.specs.IsItem.{AreParts, IsCovers, IsDecimals, IsItem, IsPart, IsRounding, IsWhen}
 use Rattle.tariff_syntax.specs.Items.{count_read, covers_after, covers_first, decimals_read, holiday_read, initial_read}
 use Rattle.tariff_syntax.specs.Items.{item_named, item_read, minimum_read, per_first, plain_named, positions_read}
 use Rattle.tariff_syntax.specs.Items.{rate_read, rounding_end, rounding_read, step_read, supplement_read, zones_read}
+use Rattle.tariff_syntax.specs.Printed.{rounding_word}
+use Rattle.tariff_syntax.{specs.{PrintedCondition.{whole}, Weight.{weight}}, proofs.ConditionLaws.{condition_found}}
 use Rattle.tariff_syntax.{specs.Token.{Token, figure, sign, word}, proofs.ConditionAgain.{condition_again, size_is}}
-use Rattle.tariff_syntax.specs.Tree.{Entry, holiday, initial, minimum, parts_of, positions, rate, step, supplement}
-use Rattle.tariff_syntax.specs.{Tree.{word_of, zones}, Weight.{weight}, Words.{after_sign, after_word, word_first}}
 use Rattle.tariff_syntax.proofs.AtomLaws.{amount_here, amounts_are, number_here, number_is}
 use Rattle.tariff_syntax.proofs.FigureLaws.{figure_as_here, figure_as_is, year_date_again, year_date_is}
 use Rattle.tariff_syntax.proofs.Tools.{after_sign_here, after_sign_is, after_word_here, after_word_is, bind_some}
 use Rattle.tariff_syntax.proofs.Tools.{by_word, chosen, ended_is, some_same, word_first_here, word_first_is}
-use Rattle.tariff_syntax.specs.Part as part
+use Rattle.tariff_tree.specs.Part as part
 
 nothing_behind : (w : List ℕ) → (after_sign w [] ≡ None) × (after_word w [] ≡ None)
 unfolding after_sign after_word

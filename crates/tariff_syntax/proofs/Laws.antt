@@ -1,10 +1,6 @@
 -- The laws of tariffs' texts, one for each clause of the public laws.
-use Rattle.std.proofs.Common.{ℕ, ◌↔◌, ◌≡◌, List, Ok, Option}
-use Rattle.tariff_syntax.specs.Choices.{choices, conditions_of, initial_part, minimum_part, rate_part}
-use Rattle.tariff_syntax.specs.{Common.{Context}, Reads.{IsParsed}, Tree.{Tree, tree_of}}
-use Rattle.tariff_syntax.specs.{Condition.{Condition}, Meaning.{rate_place}, declared.tariff.Tariff.{Tariff}}
-use Rattle.tariff_syntax.specs.Meaning.{IsFirstPlace, at_hiring, holds_if, initial_place, minimum_place, place_of}
-use Rattle.tariff_syntax.{specs.Writable.{IsWritable}, proofs.{PlaceLaws.{first_place_is}, Ranges.{numbers_of_text}}}
+use Rattle.{std.proofs.Common.{ℕ, List, Ok}, tariff_syntax.specs.Common.{IsWritable, Tariff, tree_of}}
+use Rattle.tariff_syntax.{specs.Reads.{IsParsed}, proofs.Ranges.{numbers_of_text}}
 pub use Rattle.tariff_syntax.proofs.BadLines.{first_named as bad_lines_have_no_form-first}
 pub use Rattle.tariff_syntax.proofs.BadLines.{formless_are_named as bad_lines_have_no_form-each}
 pub use Rattle.tariff_syntax.proofs.BadLines.{named_are_formless as bad_lines_have_no_form-named}
@@ -21,22 +17,6 @@ pub use Rattle.tariff_syntax.proofs.ReadsLaws.{reads_one as texts_read_as_one_ta
 pub use Rattle.tariff_syntax.proofs.ReadsLaws.{reads_or_bad as texts_read_as_one_tariff-either}
 pub use Rattle.tariff_syntax.proofs.ShownLines.{printed_reads_back as printed_forms_read_back}
 pub use Rattle.tariff_syntax.proofs.TextLaws.{lines_are as texts_are_cut_at_their_line_feeds}
-
-pub first_lines_hold-conditions : (x : Context) (conditions : List (Option Condition)) (place : Option ℕ)
-    → (place_of x conditions ≡ place) ↔ IsFirstPlace (holds_if x) conditions place
-first_lines_hold-conditions x = first_place_is (holds_if x)
-
-pub first_lines_hold-rate : (t : Tree) (x : Context) (place : Option ℕ) → (rate_place t x ≡ place)
-    ↔ IsFirstPlace (holds_if x) (conditions_of (choices rate_part t.lines)) place
-first_lines_hold-rate t x = first_lines_hold-conditions x (conditions_of (choices rate_part t.lines))
-
-pub first_lines_hold-initial : (t : Tree) (x : Context) (place : Option ℕ) → (initial_place t x ≡ place)
-    ↔ IsFirstPlace (holds_if (at_hiring x)) (conditions_of (choices initial_part t.lines)) place
-first_lines_hold-initial t x = first_lines_hold-conditions (at_hiring x) (conditions_of (choices initial_part t.lines))
-
-pub first_lines_hold-minimum : (t : Tree) (x : Context) (place : Option ℕ) → (minimum_place t x ≡ place)
-    ↔ IsFirstPlace (holds_if (at_hiring x)) (conditions_of (choices minimum_part t.lines)) place
-first_lines_hold-minimum t x = first_lines_hold-conditions (at_hiring x) (conditions_of (choices minimum_part t.lines))
 
 -- the numbers of a tariff that was read are such as a text can have
 pub parsed_is_writable : (text : List ℕ) (t : Tariff) → IsParsed text (Ok t) → IsWritable (tree_of t)

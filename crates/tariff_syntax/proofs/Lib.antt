@@ -8,8 +8,6 @@ mod ConditionAgain
 mod ConditionLaws
 -- what figures say is read from their forms
 mod FigureLaws
--- the first choice of a kind that holds, looked for line by line
-mod FirstChoices
 -- reading a condition, a step at a time
 mod GrammarSteps
 -- what a line says is read from its form
@@ -24,8 +22,6 @@ mod LineOrder
 mod NumberLaws
 -- no pair of parentheses of a printed form could go
 mod ParenthesesLaws
--- the place of the first element that passes a test
-mod PlaceLaws
 -- the numbers of a text are in their ranges
 mod Ranges
 -- a text reads as the tariff that is parsed, and its first bad line is the one that is named

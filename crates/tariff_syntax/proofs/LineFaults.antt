@@ -1,8 +1,8 @@
 -- Lines below one that memory ran out for.
 use Rattle.{std.{specs.Bool.{⊤}, proofs.Common.{subst, sym}}, tariff_syntax.specs.Faults.{ReadsAs}}
 use Rattle.std.proofs.Common.{[], ℕ, ◌++◌, ◌+◌, ◌∙◌, ◌∷◌, ◌≡◌, Err, List, None, Ok, Option, Result, Some, ap, refl}
-use Rattle.tariff_syntax.specs.{Common.{NoMemory, ParseFault, Syntax, TooLong}, Items.{item_read}, Words.{word_first}}
-use Rattle.tariff_syntax.specs.{Parsed.{before, entries_read, line_read, put_entry}, Token.{Token}, Tree.{Entry, Line}}
+use Rattle.tariff_syntax.specs.{Common.{Entry, Line, NoMemory, ParseFault, Syntax, TooLong}, Words.{word_first}}
+use Rattle.tariff_syntax.specs.{Items.{item_read}, Parsed.{before, entries_read, line_read, put_entry}, Token.{Token}}
 use Rattle.tariff_syntax.specs.{Parses.{HasEntry, HasLines, IsBadLine, IsFaultBelow, bad_in}, TokenReading.{tokens_of}}
 
 -- lines that end with others have what is bad in these, or are lines

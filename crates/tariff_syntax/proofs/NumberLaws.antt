@@ -1,8 +1,8 @@
 -- The lines of a text rise in number.
 use Rattle.std.{specs.List.{AllPairs}, proofs.lemmas.List.Elements.{All-cons, All-nil, All-weaker}}
 use Rattle.std.proofs.Common.{[], ℕ, ◌+◌, ◌<◌, ◌∷◌, ◌≤◌, All, List, arith, inl, inr, subst, suc, sym, zero}
-use Rattle.tariff_syntax.specs.{Reads.{AreTextsOfLines, AreTextsOfTariff, Reads, RiseInNumber}, TextLines.{lines_of}}
-use Rattle.tariff_syntax.specs.Tree.{Line, Tree}
+use Rattle.{tariff_tree.specs.Tree.{RiseInNumber}, tariff_syntax.specs.Reads.{AreTextsOfLines, AreTextsOfTariff, Reads}}
+use Rattle.tariff_syntax.specs.{Common.{Line, Tree}, TextLines.{lines_of}}
 
 pub pairs_cons : {X : Type 0} (R : X → X → Type 0) (x : X) (xs : List X) → All (R x) xs → AllPairs R xs
     → AllPairs R (x ∷ xs)

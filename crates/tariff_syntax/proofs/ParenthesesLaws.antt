@@ -1,10 +1,10 @@
 -- No pair of parentheses of a printed form could go.
 use Rattle.std.proofs.Common.{[], ℕ, ◌++◌, ◌∙◌, ◌∷◌, ◌≡◌, List, ap, arith, codes, subst, sym}
 use Rattle.{std.proofs.lemmas.List.{append-nil}, tariff_syntax.specs.Parentheses.{NeedsParentheses, with_pair}}
-use Rattle.tariff_syntax.{specs.{Condition.{Condition}, Spelled.{IsSpelled}, Token.{sign}}, proofs.ShownGrammar.{shown}}
+use Rattle.tariff_syntax.{specs.{Common.{Condition}, Spelled.{IsSpelled}, Weight.{weight}}, proofs.ShownGrammar.{shown}}
 use Rattle.tariff_syntax.{specs.PrintedCondition.{condition_text, whole}, proofs.ConditionAgain.{weight-append}}
+use Rattle.tariff_syntax.{specs.Token.{sign}, proofs.Shows.{line_feed}}
 use Rattle.tariff_syntax.{specs.TokenReading.{tokens_of}, proofs.{ShownConditions.{fits}, TokenLaws.{spelled_alone}}}
-use Rattle.tariff_syntax.{specs.Weight.{weight}, proofs.Shows.{line_feed}}
 
 -- the law of parentheses: a condition has no fewer `(` than its printed form
 pub parentheses_stay : (c : Condition) → NeedsParentheses c

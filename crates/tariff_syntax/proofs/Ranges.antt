@@ -1,15 +1,15 @@
 -- The numbers of a text are in their ranges.
 use Rattle.std.proofs.Common.{[], ℕ, ◌+◌, ◌^◌, ◌∷◌, ◌≤◌, All, List, None, Option, Some, arith, inl, inr, subst, sym}
 use Rattle.{std.proofs.lemmas.List.Elements.{All-cons, All-nil}, tariff_syntax.specs.IsCondition.{parentheses}}
-use Rattle.tariff_syntax.specs.{Common.{AreDigitsOf}, Part.{Part}, PrintedCondition.{Level, factor, term, whole}}
-use Rattle.tariff_syntax.specs.Condition.{Condition, after_distance, after_time, date, day, holiday, position, time}
-use Rattle.tariff_syntax.specs.{Condition.{zone}, Token.{Token}, Tree.{Line, Tree, parts_of}, Writable.{IsWritablePart}}
+use Rattle.tariff_tree.specs.Writable.{IsFromTo, IsWritableCondition, IsWritableIf, IsWritablePart}
+use Rattle.tariff_syntax.specs.Common.{AreDigitsOf, Condition, IsWritable, IsWritableEntry, Line, Part, Tree}
+use Rattle.tariff_syntax.specs.Common.{after_distance, after_time, date, day, holiday, parts_of, position, time, zone}
 use Rattle.tariff_syntax.specs.{Forms.{AreWeekdays, IsAtom, IsMinute}, Reads.{AreTextsOfLines, AreTextsOfTariff, Reads}}
 use Rattle.tariff_syntax.specs.IsCondition.{IsCondition, atom, conjunction, disjunction, negation, one_factor, one_term}
-use Rattle.tariff_syntax.specs.{IsItem.{AreParts, IsCovers, IsPart, IsWhen}, TextLines.{lines_of}}
-use Rattle.tariff_syntax.specs.Writable.{IsFromTo, IsWritable, IsWritableCondition, IsWritableEntry, IsWritableIf}
+use Rattle.tariff_syntax.specs.IsItem.{AreParts, IsCovers, IsPart, IsWhen}
+use Rattle.tariff_syntax.specs.{PrintedCondition.{Level, factor, term, whole}, TextLines.{lines_of}, Token.{Token}}
 use Rattle.tariff_syntax.proofs.ShownFigures.{amount_small, digits_small}
-use Rattle.tariff_syntax.specs.Part as part
+use Rattle.tariff_tree.specs.Part as part
 
 two_digits : (text : List ℕ) (n : ℕ) → AreDigitsOf 2 2 text n → n ≤ 99
 two_digits text n h = omega (arith, digits_small 2 text n h)

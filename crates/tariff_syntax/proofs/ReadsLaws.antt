@@ -1,15 +1,15 @@
 -- A text reads as the tariff that is parsed, and its first bad line is the one that is named.
 use Rattle.std.proofs.Common.{[], ℕ, ◌+◌, ◌<◌, ◌↔◌, ◌∙◌, ◌∷◌, ◌≡◌, ◌⊎◌, Err, List, None, Ok, Option, Result, Some, ap}
 use Rattle.{std.proofs.Common.{arith, codes, inl, inr, length, refl, subst, sym}, tariff_syntax.specs.IsItem.{IsItem}}
-use Rattle.tariff_syntax.specs.{Common.{NoMemory, ParseFault, Syntax, TooLong}, Parses.{HasLines, IsAnswer, IsFilled}}
+use Rattle.tariff_syntax.specs.Common.{Entry, Line, NoMemory, ParseFault, Syntax, Tariff, TooLong, Tree, tree_of}
 use Rattle.tariff_syntax.specs.{Items.{decimals_read, item_named, item_read, plain_named}, Token.{Token, figure, word}}
 use Rattle.tariff_syntax.specs.Parsed.{entries_read, heading_by, heading_read, put_entry, tree_below, tree_parsed}
 use Rattle.tariff_syntax.{specs.Parsed.{tree_with}, proofs.ItemLaws.{decimals_again, decimals_are, item_again, item_is}}
+use Rattle.tariff_syntax.{specs.Parses.{HasLines, IsAnswer, IsFilled}, proofs.TokenLaws.{spelled, spelled_alone}}
 use Rattle.tariff_syntax.specs.Reads.{AreTextsOfLines, AreTextsOfTariff, FirstBad, FirstBadBelow, IsEmpty}
 use Rattle.tariff_syntax.specs.Reads.{IsFirstBadLine, IsLineOfDecimals, IsLineOfEntry, IsParsed, Reads}
-use Rattle.tariff_syntax.specs.{Spelled.{IsSpelled}, TokenReading.{tokens_of}}
-use Rattle.tariff_syntax.specs.{TextLines.{lines_of}, Words.{after_word, word_first}, declared.tariff.Tariff.{Tariff}}
-use Rattle.tariff_syntax.{specs.Tree.{Entry, Line, Tree, tree_of}, proofs.TokenLaws.{spelled, spelled_alone}}
+use Rattle.tariff_syntax.specs.Spelled.{IsSpelled}
+use Rattle.tariff_syntax.specs.{TextLines.{lines_of}, TokenReading.{tokens_of}, Words.{after_word, word_first}}
 
 pub empty_is : (text : List ℕ) → tokens_of text ≡ [] → IsEmpty text
 empty_is text e = subst (λ (ts : List Token). IsSpelled text ts) e (spelled text)

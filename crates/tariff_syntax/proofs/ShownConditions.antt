@@ -2,17 +2,16 @@
 use Rattle.{std.specs.Fmt.{decimal}, tariff_syntax.proofs.ShownFigures.{money_is_text, number_again, pair_figure}}
 use Rattle.std.proofs.Common.{[], ℕ, ◌%◌, ◌++◌, ◌+◌, ◌/◌, ◌==◌, ◌^◌, ◌∷◌, ◌≡◌, ◌≤◌, Bool, List, append_assoc, arith}
 use Rattle.std.proofs.{Common.{codes, cond, false, inl, inr, refl, subst, sym, true}, lemmas.Bool.{eqb-true}}
-use Rattle.tariff_syntax.{specs.Common.{day_name, money_text, padded_text}, proofs.ConditionAgain.{weight-append}}
-use Rattle.tariff_syntax.specs.Condition.{Condition, after_distance, after_time, date, day, holiday, position, time}
-use Rattle.tariff_syntax.specs.{Condition.{zone}, Forms.{AreWeekdays, IsAmount, IsAtom, IsDate, IsMinute, IsNumber}}
+use Rattle.tariff_syntax.specs.Common.{Condition, after_distance, after_time, date, day, day_name, holiday, money_text}
+use Rattle.tariff_syntax.{specs.Common.{padded_text, position, time, zone}, proofs.ConditionAgain.{weight-append}}
+use Rattle.tariff_syntax.specs.{Forms.{AreWeekdays, IsAmount, IsAtom, IsDate, IsMinute, IsNumber}, Weight.{weight}}
 use Rattle.tariff_syntax.specs.IsCondition.{IsCondition, atom, conjunction, disjunction, negation, one_factor, one_term}
 use Rattle.tariff_syntax.specs.{IsCondition.{parentheses}, PrintedCondition.{minute_text, or_is_closed, term, whole}}
 use Rattle.tariff_syntax.specs.PrintedCondition.{Level, and_is_closed, condition_at, date_text, days_text, factor}
 use Rattle.tariff_syntax.{specs.Token.{Token, figure, sign, word}, proofs.AtomLaws.{atom_weighs, day_light, each_day}}
-use Rattle.tariff_syntax.specs.Weight.{weight}
 use Rattle.tariff_syntax.proofs.ShownFigures.{amount_again, amount_small, date_shown, decimal_text, minute_shown}
 use Rattle.tariff_syntax.proofs.Shows.{IsFigureText, Ready, Shows, blank, dots, figure_shows, letters_test, shown_word}
-use Rattle.tariff_syntax.specs.Condition as tree
+use Rattle.tariff_tree.specs.Condition as tree
 
 -- parentheses add one
 abbrev pub extra : Bool → ℕ

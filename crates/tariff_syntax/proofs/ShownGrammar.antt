@@ -1,14 +1,13 @@
 -- The printed form of a condition shows it, with no more atoms, `not` and `(` than its line.
 use Rattle.std.proofs.Common.{[], ℕ, ◌++◌, ◌+◌, ◌∷◌, ◌≤◌, List, append_assoc, arith, codes, refl, subst, sym}
-use Rattle.tariff_syntax.specs.Condition.{Condition, after_distance, after_time, date, day, holiday, position, time}
-use Rattle.tariff_syntax.{specs.Condition.{zone}, proofs.ShownConditions.{time_shown, zone_shown}}
+use Rattle.tariff_syntax.specs.Common.{Condition, after_distance, after_time, date, day, holiday, position, time, zone}
 use Rattle.tariff_syntax.specs.IsCondition.{atom, conjunction, disjunction, negation, one_factor, one_term, parentheses}
 use Rattle.tariff_syntax.specs.{PrintedCondition.{Level, condition_at, factor, term, whole}, Token.{Token, sign, word}}
-use Rattle.tariff_syntax.proofs.ConditionAgain.{weight-append}
+use Rattle.tariff_syntax.proofs.{ConditionAgain.{weight-append}, ShownConditions.{time_shown, zone_shown}}
 use Rattle.tariff_syntax.proofs.ShownConditions.{AtomShown, Fits, Show, Shown, date_atom_shown, day_atom_shown}
 use Rattle.tariff_syntax.proofs.ShownConditions.{distance_shown, holiday_shown, lift, position_shown, time_passed_shown}
 use Rattle.tariff_syntax.proofs.Shows.{Shows, blank, close_sign, open_sign, shown_word}
-use Rattle.tariff_syntax.specs.Condition as tree
+use Rattle.tariff_tree.specs.Condition as tree
 
 and_shown : (p q : Condition) (a b w : ℕ) → a + b ≤ w → Shown term p a → Shown factor q b → Shown term (tree.and p q) w
 and_shown p q a b w few left right =

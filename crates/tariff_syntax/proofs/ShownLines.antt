@@ -2,19 +2,18 @@
 use Rattle.std.{specs.Fmt.{decimal}, proofs.Common.{arith, codes, inl, inr, length, refl, subst, sym, true}}
 use Rattle.{std.specs.Prelude.{⊤}, tariff_syntax.proofs.Shows.{line_feed, shown_word, word_shows}}
 use Rattle.std.proofs.Common.{[], ℕ, ◌++◌, ◌+◌, ◌<◌, ◌∙◌, ◌∷◌, ◌≡◌, ◌≤◌, List, None, Option, Some, ap, append_assoc}
-use Rattle.tariff_syntax.specs.{Common.{Ahead, Behind, Rounding, money_text, padded_text}, Printed.{rounding_word}}
-use Rattle.tariff_syntax.{specs.{Condition.{Condition}, Part.{Part}, TextLines.{lines_of}}, proofs.ShownGrammar.{shown}}
+use Rattle.tariff_syntax.specs.Common.{Ahead, Behind, Condition, Entry, Line, Part, Rounding, Tree, money_text}
+use Rattle.tariff_syntax.specs.{Common.{padded_text, parts_of, word_of}, Printed.{rounding_word}, TextLines.{lines_of}}
 use Rattle.tariff_syntax.{specs.IsItem.{AreParts, IsDecimals, IsItem, IsPart, IsWhen}, proofs.ShownConditions.{fits}}
 use Rattle.tariff_syntax.specs.Printed.{entry_line, lines_text, number_line, part_text, parts_text, printed_form}
 use Rattle.tariff_syntax.{specs.PrintedCondition.{condition_at, condition_text, whole}, proofs.ConditionAgain.{size_is}}
 use Rattle.tariff_syntax.specs.{Reads.{AreTextsOfLines, AreTextsOfTariff, Reads}, Spelled.{IsRun, IsSpelled, IsToken}}
 use Rattle.tariff_syntax.specs.{Renumbered.{renumbered, renumbered_from}, Token.{Token, figure, is_letter, sign, word}}
-use Rattle.tariff_syntax.{specs.Tree.{Entry, Line, Tree, parts_of, word_of}, proofs.Ranges.{covers_small}}
-use Rattle.tariff_syntax.specs.Weight.{weight}
+use Rattle.tariff_syntax.{specs.Weight.{weight}, proofs.{Ranges.{covers_small}, ShownGrammar.{shown}}}
 use Rattle.tariff_syntax.proofs.ShownFigures.{amount_again, amount_small, decimal_text, money_is_text, number_again}
 use Rattle.tariff_syntax.proofs.ShownFigures.{number_says, number_small, pair_figure, year_figure, year_shown}
 use Rattle.tariff_syntax.proofs.Shows.{AllLetters, IsFigureText, Ready, Shows, blank, comma, figure_shows, letters_test}
-use Rattle.tariff_syntax.specs.Part as part
+use Rattle.tariff_tree.specs.Part as part
 
 -- a word and a blank before it
 worded : (w more : List ℕ) (ts : List Token) (texts : List (List ℕ)) → letters_test w ≡ true → Ready more ts texts

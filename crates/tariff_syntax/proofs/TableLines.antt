@@ -1,11 +1,12 @@
 -- The parts of an entry come to the table of lines.
 use Rattle.std.proofs.Common.{[], ℕ, ◌++◌, ◌∙◌, ◌∷◌, ◌≡◌, All, List, ap, codes, refl, subst, sym}
 use Rattle.std.proofs.lemmas.List.{append-nil, Elements.{All-cons, All-head, All-nil, All-tail}}
+use Rattle.tariff_tree.specs.{Tree.{holiday}, Writable.{IsWritablePart}}
+use Rattle.tariff_syntax.specs.Common.{Entry, IsWritableEntry, Part, initial, minimum, positions, rate, step}
+use Rattle.tariff_syntax.specs.{Common.{supplement, zones}, LineTable.{HasTableRanges, IsTableLine}}
 use Rattle.tariff_syntax.specs.Forms.{IsAmount, IsNumber}
-use Rattle.tariff_syntax.specs.{IsItem.{AreParts, IsItem, IsPart}, Part.{Part}, Token.{Token, figure, sign, word}}
-use Rattle.tariff_syntax.specs.{LineTable.{HasTableRanges, IsTableLine}, Writable.{IsWritableEntry, IsWritablePart}}
-use Rattle.tariff_syntax.specs.Tree.{Entry, holiday, initial, minimum, positions, rate, step, supplement, zones}
-use Rattle.tariff_syntax.specs.Part as part
+use Rattle.tariff_syntax.specs.{IsItem.{AreParts, IsItem, IsPart}, Token.{Token, figure, sign, word}}
+use Rattle.tariff_tree.specs.Part as part
 
 -- ---- a part that is one token, and those behind it
 

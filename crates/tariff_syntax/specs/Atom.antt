@@ -1,9 +1,9 @@
 -- For proofs: the atoms of a condition, read at the front of a list of tokens. The law texts_are_parsed_as_they_read
 -- says what the answers mean.
 use Rattle.std.specs.{Prelude.{ℕ, List, None, Option, Some, codes, if◌then◌else◌}, Str.{bytes_eq}}
-use Rattle.tariff_syntax.specs.{Common.{◌>>=◌, day_name}, Token.{Token}, Words.{after_sign, after_word, word_first}}
-use Rattle.tariff_syntax.specs.Condition.{Condition, after_distance, after_time, date, day, holiday, position, time}
-use Rattle.tariff_syntax.specs.{Condition.{zone}, Figure.{amount_first, date_first, minute_first, number_first}}
+use Rattle.tariff_syntax.specs.Common.{◌>>=◌, Condition, after_distance, after_time, date, day, day_name, holiday}
+use Rattle.tariff_syntax.specs.{Common.{position, time, zone}, Words.{after_sign, after_word, word_first}}
+use Rattle.tariff_syntax.specs.{Figure.{amount_first, date_first, minute_first, number_first}, Token.{Token}}
 
 -- the number of the weekday that a word names, 1 for Monday to 7 for Sunday
 abbrev pub weekday_read : List ℕ → Option ℕ

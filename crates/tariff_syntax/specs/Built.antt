@@ -1,7 +1,8 @@
 -- For proofs: what is built of a condition that is read, even if memory runs out.
 use Rattle.std.specs.Prelude.{⊤, ◌≡◌, Err, List, None, Ok, Option, Result, Some}
-use Rattle.{taxi_units.specs.declared.NoMemory.{NoMemory}, tariff_syntax.specs.{Token.{Token}, Tree.{Entry, when_part}}}
-use Rattle.tariff_syntax.specs.{Condition.{Condition, and, condition_of, not, or}, declared.condition.Cond.{Cond}}
+use Rattle.{taxi_units.specs.declared.NoMemory.{NoMemory}, tariff_tree.specs.declared.condition.Cond.{Cond}}
+use Rattle.tariff_tree.specs.Tree.{when_part}
+use Rattle.tariff_syntax.specs.{Common.{Condition, Entry, and, condition_of, not, or}, Token.{Token}}
 
 -- a condition has parts, which take memory of their own, if it is no atom
 abbrev pub HasParts : Condition → Type 0

@@ -1,6 +1,6 @@
 -- Rules: the lines of a text that have no form.
 use Rattle.std.specs.Prelude.{[], ℕ, ◌+◌, ◌∷◌, ◌≡◌, ◌⊎◌, List}
-use Rattle.tariff_syntax.specs.{Reads.{IsEmpty, IsLineOfDecimals, IsLineOfEntry}, TextLines.{lines_of}, Tree.{Entry}}
+use Rattle.tariff_syntax.specs.{Common.{Entry}, Reads.{IsEmpty, IsLineOfDecimals, IsLineOfEntry}, TextLines.{lines_of}}
 
 -- a line has no form if it isn't empty and says no entry
 pub record IsFormless (decimals : ℕ) (text : List ℕ) : Type 0 where

@@ -1,9 +1,8 @@
 -- Rules: the forms of figures and atoms.
 use Rattle.std.specs.Prelude.{[], ℕ, ◌*◌, ◌++◌, ◌+◌, ◌∷◌, ◌≡◌, ◌≤◌, ◌⊎◌, List, Ok, codes}
 use Rattle.taxi_units.specs.{Decimal.{IsReadAs}, Digits.{IsFigure}}
-use Rattle.tariff_syntax.specs.Common.{AreDigitsOf, day_name}
-use Rattle.tariff_syntax.specs.Condition.{Condition, after_distance, after_time, and, date, day, holiday, not, or}
-use Rattle.tariff_syntax.specs.{Condition.{position, time, zone}, Token.{Token, figure, sign, word}}
+use Rattle.tariff_syntax.specs.Common.{AreDigitsOf, Condition, after_distance, after_time, and, date, day, day_name}
+use Rattle.tariff_syntax.specs.{Common.{holiday, not, or, position, time, zone}, Token.{Token, figure, sign, word}}
 
 -- a text is a number of a range if it is a figure of it of one or two digits
 abbrev pub IsNumber : (least most : ℕ) → List ℕ → ℕ → Type 0

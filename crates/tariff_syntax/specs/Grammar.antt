@@ -2,9 +2,8 @@
 -- answers mean.
 use Rattle.std.specs.Prelude.{[], ℕ, ◌∷◌, List, None, Option, Some, codes, if◌then◌else◌, nat_le, suc, zero}
 use Rattle.{std.specs.Str.{bytes_eq}, tariff_syntax.specs.{Atom.{atom_named}, Words.{after_sign, after_word, ended}}}
-use Rattle.tariff_syntax.specs.Common.{◌>>=◌}
-use Rattle.tariff_syntax.specs.{Condition.{Condition}, Token.{Token, figure, sign, word}, Weight.{weight}}
-use Rattle.tariff_syntax.specs.Condition as tree
+use Rattle.tariff_syntax.specs.{Common.{◌>>=◌, Condition}, Token.{Token, figure, sign, word}, Weight.{weight}}
+use Rattle.tariff_tree.specs.Condition as tree
 
 -- a reader gives the condition at the front of tokens, and the tokens after it
 abbrev pub Reader : Type 0

@@ -1,8 +1,8 @@
 -- Rules: the grammar of conditions.
 use Rattle.std.specs.Prelude.{[], ℕ, ◌++◌, ◌+◌, ◌∷◌, List, codes}
-use Rattle.tariff_syntax.specs.{Condition.{Condition}, Forms.{IsAtom}}
+use Rattle.tariff_syntax.specs.{Common.{Condition}, Forms.{IsAtom}}
 use Rattle.tariff_syntax.specs.{PrintedCondition.{Level, factor, term, whole}, Token.{Token, sign, word}}
-use Rattle.tariff_syntax.specs.Condition as tree
+use Rattle.tariff_tree.specs.Condition as tree
 
 -- tokens are a condition at a level of the grammar: a factor is an atom, `not` and a factor, or a whole condition in
 -- parentheses; a term is a factor, or a term, `and` and a factor; a whole condition is a term, or a whole condition,

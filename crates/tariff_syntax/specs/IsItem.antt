@@ -1,10 +1,9 @@
 -- Rules: the forms of a line.
 use Rattle.std.specs.Prelude.{[], ℕ, ◌++◌, ◌∷◌, ◌≡◌, ◌≤◌, ◌⊎◌, List, None, Option, Some, codes}
-use Rattle.tariff_syntax.specs.{Common.{Behind, Rounding}, Printed.{rounding_word}, PrintedCondition.{whole}}
-use Rattle.tariff_syntax.specs.Condition.{Condition}
-use Rattle.tariff_syntax.specs.{Forms.{IsAmount, IsNumber, IsYearDate}, IsCondition.{IsCondition, size_of}, Part.{Part}}
-use Rattle.tariff_syntax.specs.{Token.{Token, figure, sign, word}, Tree.{Entry, parts_of, word_of}}
-use Rattle.tariff_syntax.specs.Part as part
+use Rattle.tariff_syntax.specs.Common.{Behind, Condition, Entry, Part, Rounding, parts_of, word_of}
+use Rattle.tariff_syntax.specs.{Forms.{IsAmount, IsNumber, IsYearDate}, IsCondition.{IsCondition, size_of}}
+use Rattle.tariff_syntax.specs.{Printed.{rounding_word}, PrintedCondition.{whole}, Token.{Token, figure, sign, word}}
+use Rattle.tariff_tree.specs.Part as part
 
 -- tokens say a rounding if they are its word, or if there are none and it is `behind`
 abbrev pub IsRounding : List Token → Rounding → Type 0

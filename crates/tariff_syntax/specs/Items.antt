@@ -1,9 +1,9 @@
 -- For proofs: what a line says, read from its tokens. The law texts_are_parsed_as_they_read says what the answers mean.
 use Rattle.std.specs.{Prelude.{[], ℕ, ◌∷◌, List, None, Option, Some, codes, if◌then◌else◌}, Str.{bytes_eq}}
-use Rattle.tariff_syntax.specs.Common.{◌>>=◌, Ahead, Behind, Rounding}
-use Rattle.tariff_syntax.specs.{Figure.{amount_first, number_first, year_date_first}, Grammar.{when_read}}
-use Rattle.tariff_syntax.specs.{Token.{Token}, Words.{after_sign, after_word, ended, word_first}}
-use Rattle.tariff_syntax.specs.Tree.{Entry, holiday, initial, minimum, positions, rate, step, supplement, zones}
+use Rattle.{tariff_tree.specs.Tree.{holiday}, tariff_syntax.specs.{Common.{supplement, zones}, Grammar.{when_read}}}
+use Rattle.tariff_syntax.specs.Common.{◌>>=◌, Ahead, Behind, Entry, Rounding, initial, minimum, positions, rate, step}
+use Rattle.tariff_syntax.specs.{Figure.{amount_first, number_first, year_date_first}, Token.{Token}}
+use Rattle.tariff_syntax.specs.Words.{after_sign, after_word, ended, word_first}
 
 -- the rounding that a word names, `behind` or `ahead`
 abbrev pub rounding_read : List ℕ → Option Rounding

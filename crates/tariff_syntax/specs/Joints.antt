@@ -1,7 +1,7 @@
 -- For proofs: how the parts of a condition are joined, by the value of the program that stands for it. The law
 -- texts_are_parsed_as_they_read says what the answers mean.
 use Rattle.{std.specs.Prelude.{ℕ, List, codes}, tariff_syntax.specs.declared.conditions.Joint.TheVariants.{And, Or}}
-use Rattle.tariff_syntax.specs.Condition.{Condition}
+use Rattle.tariff_syntax.specs.Common.{Condition}
 use Rattle.tariff_syntax.specs.{Grammar.{Reader, and_joined, or_joined}, declared.conditions.Joint.{Joint}}
 
 -- parts are joined by `or` if they are terms, and by `and` if they are factors

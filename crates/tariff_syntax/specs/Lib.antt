@@ -2,8 +2,6 @@ pub mod Appends
 pub mod Atom
 pub mod BadLines
 pub mod Built
-pub mod Choices
-pub mod Condition
 pub mod Faults
 pub mod Figure
 pub mod Formless
@@ -14,11 +12,9 @@ pub mod IsItem
 pub mod Items
 pub mod Joints
 pub mod LineTable
-pub mod Meaning
 pub mod Parentheses
 pub mod Parsed
 pub mod Parses
-pub mod Part
 pub mod Printed
 pub mod PrintedCondition
 pub mod Reads
@@ -27,8 +23,6 @@ pub mod Spelled
 pub mod TextLines
 pub mod Token
 pub mod TokenReading
-pub mod Tree
 pub mod Weight
 pub mod Words
-pub mod Writable
 pub mod Common

@@ -1,9 +1,10 @@
 -- Rules: the lines of the language, kind by kind: the parts of a line, their order, and the range of each number. The
 -- law lines_are_those_of_the_table says that the parts of an entry agree with this table.
 use Rattle.std.specs.Prelude.{[], ℕ, ◌++◌, ◌∷◌, ◌≡◌, ◌≤◌, List, codes}
-use Rattle.tariff_syntax.specs.{Forms.{IsAmount, IsNumber, IsYearDate}, Writable.{IsFromTo, IsWritableIf, greatest}}
-use Rattle.tariff_syntax.specs.{IsItem.{IsCovers, IsRounding, IsWhen}, Token.{Token, figure, sign, word}}
-use Rattle.tariff_syntax.specs.Tree.{Entry, holiday, initial, minimum, positions, rate, step, supplement, zones}
+use Rattle.tariff_tree.specs.{Tree.{holiday}, Writable.{IsFromTo, IsWritableIf, greatest}}
+use Rattle.tariff_syntax.specs.Common.{Entry, initial, minimum, positions, rate, step, supplement, zones}
+use Rattle.tariff_syntax.specs.{Forms.{IsAmount, IsNumber, IsYearDate}, IsItem.{IsCovers, IsRounding, IsWhen}}
+use Rattle.tariff_syntax.specs.Token.{Token, figure, sign, word}
 
 -- tokens are a line of the table if they are its word and its parts; the `rest` of a step, a fee, a rate or a minimum
 -- may be left out

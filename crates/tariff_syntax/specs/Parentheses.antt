@@ -1,7 +1,7 @@
 -- Rules: the parentheses of a printed condition.
 use Rattle.std.specs.Prelude.{[], ℕ, ◌++◌, ◌∷◌, ◌≡◌, List, codes}
-use Rattle.tariff_syntax.specs.{Condition.{Condition}, Spelled.{IsSpelled}, TextLines.{lines_of}, Token.{Token, sign}}
-use Rattle.tariff_syntax.specs.{IsCondition.{IsCondition}, PrintedCondition.{condition_text, whole}}
+use Rattle.tariff_syntax.specs.{Common.{Condition}, IsCondition.{IsCondition}, PrintedCondition.{condition_text, whole}}
+use Rattle.tariff_syntax.specs.{Spelled.{IsSpelled}, TextLines.{lines_of}, Token.{Token, sign}}
 
 -- a line is a condition's printed form if it is the one line that the condition is printed as
 abbrev pub IsPrinted : Condition → (line : List ℕ) → Type 0

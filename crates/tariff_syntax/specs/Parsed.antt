@@ -1,7 +1,7 @@
 -- By law: the tariff of a text, read line after line. The law texts_are_parsed_as_they_read says what the answers
 -- mean.
 use Rattle.std.specs.Prelude.{[], ℕ, ◌++◌, ◌+◌, ◌∷◌, Err, List, None, Ok, Option, Result, Some}
-use Rattle.tariff_syntax.specs.{Items.{decimals_read, item_read}, TokenReading.{tokens_of}, Tree.{Entry, Line, Tree}}
+use Rattle.tariff_syntax.specs.{Common.{Entry, Line, Tree}, Items.{decimals_read, item_read}, TokenReading.{tokens_of}}
 use Rattle.tariff_syntax.specs.{TextLines.{lines_of}, Token.{Token}}
 
 -- the entry of a line, put before the lines below it; a line without tokens is passed over, and one with tokens and

@@ -1,9 +1,9 @@
 -- For proofs: what the parser of a whole text answers, by the stages of the code. The law texts_are_parsed_as_they_read
 -- says what the answers mean.
 use Rattle.std.specs.Prelude.{[], ℕ, ⊤, ◌<◌, ◌∷◌, ◌≡◌, ◌≤◌, Err, List, None, Ok, Option, Result, Some, length, map}
-use Rattle.tariff_syntax.specs.{Common.{NoMemory, ParseFault, Syntax, TooLong}, declared.tariff.TariffLine.{TariffLine}}
-use Rattle.tariff_syntax.specs.{Faults.{ReadsAs}, Parsed.{tree_parsed}, Token.{Token}}
-use Rattle.tariff_syntax.specs.{Items.{item_read}, Tree.{Line, Tree, line_of, tree_of}, declared.tariff.Tariff.{Tariff}}
+use Rattle.{tariff_tree.specs.declared.tariff.TariffLine.{TariffLine}, tariff_syntax.specs.Parsed.{tree_parsed}}
+use Rattle.tariff_syntax.specs.Common.{Line, NoMemory, ParseFault, Syntax, Tariff, TooLong, Tree, line_of, tree_of}
+use Rattle.tariff_syntax.specs.{Faults.{ReadsAs}, Items.{item_read}, Token.{Token}}
 
 -- the tokens of a line say an entry
 abbrev pub HasEntry : (decimals : ℕ) → List Token → Type 0

@@ -1,9 +1,8 @@
 -- Rules: the printed form of a tariff. Each part is spelled in front of what follows it, its rest.
 use Rattle.std.specs.{Fmt.{decimal}, Prelude.{[], ℕ, ◌++◌, ◌∷◌, List, None, Option, Some, codes}}
-use Rattle.tariff_syntax.specs.{Common.{Ahead, Behind, Rounding, money_text, padded_text}, Condition.{Condition}}
-use Rattle.tariff_syntax.specs.Part.{Part}
-use Rattle.tariff_syntax.specs.{PrintedCondition.{condition_text}, Tree.{Entry, Line, Tree, parts_of, word_of}}
-use Rattle.tariff_syntax.specs.Part as part
+use Rattle.tariff_syntax.specs.Common.{Ahead, Behind, Condition, Entry, Line, Part, Rounding, Tree, money_text}
+use Rattle.tariff_syntax.specs.{Common.{padded_text, parts_of, word_of}, PrintedCondition.{condition_text}}
+use Rattle.tariff_tree.specs.Part as part
 
 -- the word of a rounding to the display step is `behind` or `ahead`
 abbrev pub rounding_word : Rounding → List ℕ

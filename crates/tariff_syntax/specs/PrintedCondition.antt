@@ -1,7 +1,7 @@
 -- Rules: the printed form of a condition. Each part is spelled in front of what follows it, its rest.
 use Rattle.std.specs.{Fmt.{decimal}, Prelude.{ℕ, ◌%◌, ◌++◌, ◌/◌, ◌==◌, Bool, List, codes, false, if◌then◌else◌, true}}
-use Rattle.tariff_syntax.specs.{Common.{day_name, money_text, padded_text}, Condition.{position, time, zone}}
-use Rattle.tariff_syntax.specs.Condition.{Condition, after_distance, after_time, and, date, day, holiday, not, or}
+use Rattle.tariff_syntax.specs.Common.{Condition, after_distance, after_time, and, date, day, day_name, holiday}
+use Rattle.tariff_syntax.specs.Common.{money_text, not, or, padded_text, position, time, zone}
 
 -- weekdays are printed as the first one's short name, and if the last one is another, `..` and its short name
 abbrev pub days_text : (from to : ℕ) → List ℕ → List ℕ

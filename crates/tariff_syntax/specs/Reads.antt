@@ -1,9 +1,8 @@
 -- Rules: what a text says. It is cut into lines; the first line that has tokens may say the decimals; each further one
 -- says an entry.
-use Rattle.std.specs.{List.{AllPairs}, Prelude.{[], ℕ, ◌+◌, ◌<◌, ◌∷◌, ◌≡◌, ◌≤◌, ◌⊎◌, Err, List, Ok, Result, length}}
-use Rattle.tariff_syntax.specs.{Common.{NoMemory, ParseFault, Syntax, TooLong}, Tree.{Entry, Line, Tree, tree_of}}
-use Rattle.tariff_syntax.specs.{IsItem.{IsDecimals, IsItem}, TextLines.{lines_of}, declared.tariff.Tariff.{Tariff}}
-use Rattle.tariff_syntax.specs.{Spelled.{IsSpelled}, Token.{Token}}
+use Rattle.std.specs.Prelude.{[], ℕ, ◌+◌, ◌<◌, ◌∷◌, ◌≡◌, ◌≤◌, ◌⊎◌, Err, List, Ok, Result, length}
+use Rattle.tariff_syntax.specs.Common.{Entry, Line, NoMemory, ParseFault, Syntax, Tariff, TooLong, Tree, tree_of}
+use Rattle.tariff_syntax.specs.{IsItem.{IsDecimals, IsItem}, Spelled.{IsSpelled}, TextLines.{lines_of}, Token.{Token}}
 
 -- a line is empty if it has nothing but blanks and perhaps a comment
 abbrev pub IsEmpty : List ℕ → Type 0
@@ -60,10 +59,6 @@ FirstBadBelow number (text ∷ texts) bad =
 -- a text's first bad line is the first bad one of its lines, numbered from 1 on
 abbrev pub IsFirstBadLine : List ℕ → (bad : ℕ) → Type 0
 IsFirstBadLine text bad = FirstBadBelow 1 (lines_of text) bad
-
--- lines rise in number if each has a greater number than those above it
-abbrev pub RiseInNumber : List Line → Type 0
-RiseInNumber lines = AllPairs (λ (above below : Line). above.line < below.line) lines
 
 -- a text is refused as too long above 65,536 bytes, as bad with its first bad line, or because memory ran out for a
 -- tariff of at least one line

@@ -1,6 +1,6 @@
 -- Rules: the tariff of a printed form.
 use Rattle.std.specs.Prelude.{[], ℕ, ◌+◌, ◌∷◌, List}
-use Rattle.tariff_syntax.specs.Tree.{Line, Tree}
+use Rattle.tariff_syntax.specs.Common.{Line, Tree}
 
 -- lines are numbered one after another, from `number` on, and say what they said before
 abbrev pub renumbered_from : (number : ℕ) → List Line → List Line

@@ -1,13 +1,13 @@
 //! The atoms of a condition.
 #![tactic(auto, unfolding(crate::specs::Atom::numbered_first))]
 
-ghost use Rattle.tariff_syntax.specs.{Common.{Gives, GivesSame}, Condition.{condition_of}, TokenReading.{tokens_of}};
+ghost use Rattle.tariff_syntax.specs.{Common.{Gives, GivesSame, condition_of}, TokenReading.{tokens_of}};
 ghost use Rattle.tariff_syntax.specs.Atom as spec;
-ghost use Rattle.tariff_syntax.specs.Condition as tree;
+ghost use Rattle.tariff_tree.specs.Condition as tree;
 
-use crate::condition::Cond;
 use crate::figures::{amount_first, date_first, minute_first, number_first};
 use crate::words::{after_sign, after_word, is_text, word_first};
+use tariff_tree::Cond;
 use taxi_units::DAY_NAMES;
 
 /// An atom, after its first word, and the text behind it.

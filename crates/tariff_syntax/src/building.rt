@@ -1,9 +1,9 @@
 //! Builds a condition of its parts, any of which may be missing if memory ran out.
-ghost use Rattle.tariff_syntax.specs.{Built.{IsBuilt}, Condition.{Condition}};
-ghost use Rattle.tariff_syntax.specs.Condition as tree;
+ghost use Rattle.tariff_syntax.specs.{Built.{IsBuilt}, Common.{Condition}};
+ghost use Rattle.tariff_tree.specs.Condition as tree;
 
-use crate::condition::Cond;
 use std::alloc::Global;
+use tariff_tree::Cond;
 use taxi_units::NoMemory;
 
 /// A condition, or `NoMemory` if memory ran out for it or for one of its parts.

@@ -1,20 +1,20 @@
 //! Reads conditions.
 ghost use Rattle.std.specs.Prelude.{◌≡◌, ◌≤◌, if◌then◌else◌, length};
-ghost use Rattle.tariff_syntax.specs.{Built.{Builds, HasParts, HasPartsIf, IsBuilt}, TokenReading.{tokens_of}};
-ghost use Rattle.tariff_syntax.specs.{Condition.{Condition, condition_if, condition_of}, Grammar.{term_by, when_read}};
-ghost use Rattle.tariff_syntax.specs.{Faults.{GivesOrFails}, Joints.{joined_by}, Weight.{token_weight}};
+ghost use Rattle.{tariff_tree.specs.Condition.{condition_if}, tariff_syntax.specs.Grammar.{term_by, when_read}};
+ghost use Rattle.tariff_syntax.specs.{Built.{Builds, HasParts, HasPartsIf, IsBuilt}, Common.{Condition, condition_of}};
+ghost use Rattle.tariff_syntax.specs.{Faults.{GivesOrFails}, TokenReading.{tokens_of}, Weight.{token_weight}};
 ghost use Rattle.tariff_syntax.specs.Grammar.{chain_on, closed_after, condition_by, factor_by, factor_first, negated};
-ghost use Rattle.tariff_syntax.specs.Token.{token_of};
+ghost use Rattle.tariff_syntax.specs.{Joints.{joined_by}, Token.{token_of}};
 ghost use Rattle.tariff_syntax.specs.Grammar as spec;
 ghost use Rattle.tariff_syntax.specs.Joints as joints;
 ghost use Rattle.tariff_syntax.specs.Weight as weights;
 
 use crate::atoms::atom_named;
 use crate::building::{Built, and, not, or};
-use crate::condition::Cond;
 use crate::tokens::{Token, first_token};
 use crate::words::{after_sign, after_word, is_over, is_text};
 use std::alloc::Global;
+use tariff_tree::Cond;
 
 /// Why a line has no item.
 #[derive(Clone, Copy)]

@@ -1,16 +1,17 @@
 //! Reads what a line says.
 ghost use Rattle.std.specs.Prelude.{◌≤◌, IfSome};
-ghost use Rattle.tariff_syntax.specs.{Built.{EntryHasParts}, Faults.{GivesOrFails}, TokenReading.{tokens_of}};
-ghost use Rattle.tariff_syntax.specs.{Common.{Gives, GivesSame}, Items.{supplement_read, zones_read}, Tree.{entry_of}};
+ghost use Rattle.{tariff_tree.specs.Tree.{entry_of}, tariff_syntax.specs.Items.{supplement_read, zones_read}};
+ghost use Rattle.tariff_syntax.specs.{Built.{EntryHasParts}, Common.{Gives, GivesSame}, TokenReading.{tokens_of}};
+ghost use Rattle.tariff_syntax.specs.Faults.{GivesOrFails};
 ghost use Rattle.tariff_syntax.specs.Items.{count_read, holiday_read, item_read, positions_read, step_read};
 ghost use Rattle.tariff_syntax.specs.Items as spec;
 
 use crate::conditions::{LineFault, when};
 use crate::figures::{amount_first, number_first, year_date_first};
-use crate::tariff::{InitialLine, Item, MinimumLine, RateLine};
 use crate::words::{after_sign, after_word, is_over, is_text, word_first};
 use drive_modes::Rounding;
 use std::alloc::Global;
+use tariff_tree::{InitialLine, Item, MinimumLine, RateLine};
 
 /// What a line says, whose money has `decimals` decimals.
 #[tactic(auto, unfolding(crate::specs::Items::item_read))]

@@ -1,15 +1,13 @@
 //! What the tariff language means. The relations of texts share with the parser the tables of bytes (blanks, letters,
 //! the bytes of a figure), and the cutting into lines, which has its law here. With the printed form they share the
 //! words, the parts of entries, and the tables of the names of weekdays and of roundings.
-ghost use Rattle.{std.specs.List.{AllPairs, Contains, slice_get}, tariff_syntax.specs.Meaning.{place_of, rate_place}};
-ghost use Rattle.std.specs.Prelude.{[], ℕ, ◌<◌, ◌↔◌, ◌≡◌, ◌⊎◌, All, Err, List, Ok, Option, Some};
-ghost use Rattle.tariff_syntax.specs.{BadLines.{bad_lines}, Condition.{Condition}, Formless.{HasNoForm}, Token.{Token}};
-ghost use Rattle.tariff_syntax.specs.Choices.{choices, conditions_of, initial_part, minimum_part, rate_part};
-ghost use Rattle.tariff_syntax.specs.{Common.{Context}, IsItem.{IsItem}, Parsed.{tree_parsed}, Tree.{Entry, Tree}};
-ghost use Rattle.tariff_syntax.specs.{LineTable.{HasTableRanges, IsTableLine}, Writable.{IsWritable, IsWritableEntry}};
-ghost use Rattle.tariff_syntax.specs.Meaning.{IsFirstPlace, at_hiring, holds_if, initial_place, minimum_place};
-ghost use Rattle.tariff_syntax.specs.{Parentheses.{NeedsParentheses}, Reads.{IsFirstBadLine, Reads, RiseInNumber}};
-ghost use Rattle.tariff_syntax.specs.{Printed.{printed_form}, Renumbered.{renumbered}, TextLines.{AreLines, lines_of}};
+ghost use Rattle.{std.specs.List.{AllPairs, Contains, slice_get}, tariff_tree.specs.Tree.{RiseInNumber}};
+ghost use Rattle.std.specs.Prelude.{[], ℕ, ◌<◌, ◌↔◌, ◌≡◌, ◌⊎◌, All, Err, List, Ok, Some};
+ghost use Rattle.tariff_syntax.specs.{BadLines.{bad_lines}, Printed.{printed_form}, Renumbered.{renumbered}};
+ghost use Rattle.tariff_syntax.specs.{Common.{Condition, Entry, IsWritable, IsWritableEntry, Tree}, Token.{Token}};
+ghost use Rattle.tariff_syntax.specs.{Formless.{HasNoForm}, Parsed.{tree_parsed}};
+ghost use Rattle.tariff_syntax.specs.{IsItem.{IsItem}, Reads.{IsFirstBadLine, Reads}, TextLines.{AreLines, lines_of}};
+ghost use Rattle.tariff_syntax.specs.{LineTable.{HasTableRanges, IsTableLine}, Parentheses.{NeedsParentheses}};
 
 /// The law of texts: a text either reads as a tariff, and as no other, or it has a first bad line, and no other.
 pub fn texts_read_as_one_tariff()
@@ -73,18 +71,4 @@ pub fn lines_rise_in_number()
 /// that condition.
 pub fn parentheses_are_needed()
     ensures { (c : Condition) → NeedsParentheses c }
-{}
-
-/// The law of places: the choice that is found in a context is the one at which a condition holds or there is none, and
-/// before which none holds. No choice is found exactly if none holds. So it is for the rate of a context among the
-/// rates of a tariff, and for its initial hire fee and its minimum fare at the hiring.
-pub fn first_lines_hold()
-    ensures conditions { (x : Context) (conditions : List (Option Condition)) (place : Option ℕ)
-        → (place_of x conditions ≡ place) ↔ IsFirstPlace (holds_if x) conditions place }
-    ensures rate { (t : Tree) (x : Context) (place : Option ℕ) → (rate_place t x ≡ place)
-        ↔ IsFirstPlace (holds_if x) (conditions_of (choices rate_part t.lines)) place }
-    ensures initial { (t : Tree) (x : Context) (place : Option ℕ) → (initial_place t x ≡ place)
-        ↔ IsFirstPlace (holds_if (at_hiring x)) (conditions_of (choices initial_part t.lines)) place }
-    ensures minimum { (t : Tree) (x : Context) (place : Option ℕ) → (minimum_place t x ≡ place)
-        ↔ IsFirstPlace (holds_if (at_hiring x)) (conditions_of (choices minimum_part t.lines)) place }
 {}

@@ -3,16 +3,16 @@
 
 ghost use Rattle.std.specs.Prelude.{[], ℕ, ◌+◌, ◌<◌, ◌^◌, ◌∷◌, ◌≡◌, ◌≤◌, Err, IfOk, List, MatchOption, OnErr, OnOk};
 ghost use Rattle.std.specs.Prelude.{Result, Some, drop, if◌then◌else◌, is_none, length, map};
-ghost use Rattle.tariff_syntax.specs.{BadLines.{is_bad}, Parsed.{before, entries_read, heading_read, line_read}};
+ghost use Rattle.tariff_syntax.specs.{BadLines.{is_bad}, Parses.{AreRead, HasEntry, IsAnswer, IsFaultBelow, bad_in}};
+ghost use Rattle.tariff_syntax.specs.{Common.{Line, line_of}, Parsed.{before, entries_read, heading_read, line_read}};
 ghost use Rattle.tariff_syntax.specs.{Items.{item_read}, Reads.{IsParsed}};
-ghost use Rattle.tariff_syntax.specs.{Parses.{AreRead, HasEntry, IsAnswer, IsFaultBelow, bad_in}, Tree.{Line, line_of}};
 ghost use Rattle.tariff_syntax.specs.{TextLines.{is_inner, lines_of}, TokenReading.{run_end, tokens_of}};
 
 use crate::conditions::LineFault;
 use crate::items::{decimals, item};
-use crate::tariff::{Lines, Tariff, TariffLine};
 use crate::words::is_over;
 use std::alloc::Global;
+use tariff_tree::{Lines, Tariff, TariffLine};
 use thiserror::Error;
 
 /// Why a text gives no tariff.

@@ -1,7 +1,7 @@
 //! Writes the parts that lines of a tariff share.
 ghost use Rattle.std.specs.Prelude.{[], ◌++◌, ◌∷◌, ◌≡◌, ◌≤◌, OnOk, codes};
 ghost use Rattle.tariff_syntax.specs.{Appends.{Appends}, Common.{money_text}, Printed.{parts_text, rounding_word}};
-ghost use Rattle.tariff_syntax.specs.Part as part;
+ghost use Rattle.tariff_tree.specs.Part as part;
 
 use drive_modes::Rounding;
 use std::alloc::AllocError;

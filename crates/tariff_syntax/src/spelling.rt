@@ -1,12 +1,12 @@
 //! Writes the printed form of a condition.
 ghost use Rattle.std.specs.{Fmt.{decimal}, Prelude.{◌++◌, ◌≡◌, OnOk, codes, true}};
-ghost use Rattle.tariff_syntax.specs.{Appends.{Appends}, Common.{day_name, money_text, padded_text}};
-ghost use Rattle.tariff_syntax.specs.{Condition.{condition_of}, PrintedCondition.{minute_text, term, whole}};
+ghost use Rattle.tariff_syntax.specs.{Appends.{Appends}, Common.{condition_of, day_name, money_text, padded_text}};
 ghost use Rattle.tariff_syntax.specs.PrintedCondition.{condition_at, date_text, days_text, factor, in_parentheses};
+ghost use Rattle.tariff_syntax.specs.PrintedCondition.{minute_text, term, whole};
 
-use crate::condition::Cond;
 use crate::printing::push_money;
 use std::alloc::AllocError;
+use tariff_tree::Cond;
 use taxi_units::{DAY_NAMES, Line, put_padded};
 
 /// A whole condition, or one before an `or`.

@@ -1,17 +1,16 @@
 //! Writes the printed form of a tariff.
 ghost use Rattle.std.specs.{Fmt.{decimal}, Prelude.{[], ◌++◌, ◌≡◌, ◌≤◌, IfOk, OnOk, codes, map}};
-ghost use Rattle.tariff_syntax.specs.Appends.{Appends};
-ghost use Rattle.tariff_syntax.specs.{Common.{money_text}, Tree.{entry_of, line_of, tree_of, without_when}};
-ghost use Rattle.tariff_syntax.specs.{Condition.{condition_if, condition_of}, PrintedCondition.{condition_text}};
+ghost use Rattle.tariff_tree.specs.{Condition.{condition_if}, Tree.{entry_of, without_when}};
+ghost use Rattle.tariff_syntax.specs.{Appends.{Appends}, Common.{condition_of, line_of, money_text, tree_of}};
 ghost use Rattle.tariff_syntax.specs.Printed.{entry_line, lines_text, number_line, printed_form, when_text};
-ghost use Rattle.tariff_syntax.specs.Tree as tree;
+ghost use Rattle.tariff_syntax.specs.PrintedCondition.{condition_text};
+ghost use Rattle.tariff_tree.specs.Tree as tree;
 
-use crate::condition::Cond;
 use crate::printing::{push_money, push_per, push_rounding};
 use crate::spelling::{push_condition, push_date, push_named, push_padded};
-use crate::tariff::{InitialLine, Item, RateLine, Tariff, TariffLine};
 use drive_modes::Rounding;
 use std::alloc::{AllocError, Global};
+use tariff_tree::{Cond, InitialLine, Item, RateLine, Tariff, TariffLine};
 use taxi_units::NoMemory;
 
 /// The printed form of a tariff: the line of its decimals, then its lines in their order, with one blank between

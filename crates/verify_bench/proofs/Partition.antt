@@ -1,5 +1,5 @@
 -- The groups of a trip's parts, those in Stopped and those that were left unfinished are all its parts.
-use Rattle.{std.specs.{List.{range_with_len}, Option.{unwrap_or}}, tariff_syntax.specs.Meaning.{rate_place}}
+use Rattle.{std.specs.{List.{range_with_len}, Option.{unwrap_or}}, tariff_tree.specs.Meaning.{rate_place}}
 use Rattle.std.{specs.Prelude.{◌&&◌, cond, flat_map, if◌then◌else◌, nat_eq, nat_lt}, proofs.lemmas.Bool.{eqb-true}}
 use Rattle.std.proofs.Common.{[], ℕ, ◌*◌, ◌++◌, ◌+◌, ◌<◌, ◌∙◌, ◌∷◌, ◌≡◌, ◌≤◌, All, Bool, List, ap, arith, false, filter}
 use Rattle.std.proofs.{Common.{inl, inr, length, map, refl, subst, suc, sum, sym, true, zero}, lemmas.List.{length-map}}

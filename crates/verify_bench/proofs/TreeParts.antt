@@ -1,10 +1,9 @@
 -- The parts of a sound tariff that hold in a context are sound.
-use Rattle.{std.specs.Option.{unwrap_or}, tariff_syntax.specs.Meaning.{rate_place}}
+use Rattle.{std.specs.Option.{unwrap_or}, tariff_tree.specs.Meaning.{rate_place}, verify_bench.specs.Wholes.{IsOfText}}
 use Rattle.std.proofs.{Common.{ℕ, ◌<◌, ◌∙◌, ◌≡◌, ◌≤◌, Some, ap, arith, inl, inr, sym}, lemmas.Bool.{cases_lt}}
 use Rattle.{tariff_check.specs.declared.choice.ChoiceKind.TheVariants.{Rate}, verify_bench.specs.Common.{supplement_of}}
 use Rattle.verify_bench.specs.Common.{Context, IsSound, IsSoundRate, IsSupplementNumber, IsWritable, Setting}
 use Rattle.verify_bench.specs.Common.{SoundTariff, Supplement, Tree, rate_in_force, sound_of, supplement_numbered}
-use Rattle.verify_bench.specs.Wholes.{IsOfText}
 use Rattle.tariff_check.proofs.Laws as check
 
 pub sound_rate : (t : Tree) (x : Context) → IsWritable t → IsSound t → IsSoundRate (rate_in_force (sound_of t) x)

@@ -8,8 +8,8 @@ pub use Rattle.drive_modes.specs.{Fare.{shown_fare}, declared.charges.Mode.{Mode
 pub use Rattle.drive_text.specs.{Drive.{bad_at_end, runs_in}, declared.run.Run.{Run, TheVariants.{Many, One}}}
 pub use Rattle.drive_text.specs.{Ranges.{IsInRange, IsRunInRange}, Runs.{interval_events, intervals_events, run_events}}
 pub use Rattle.{drive_text.specs.Written.{event_text}, totals_record.specs.declared.trip.Trip.{Trip}}
-pub use Rattle.{totals_record.specs.States.{first_state}, tariff_syntax.specs.declared.context.Context.{Context}}
-pub use Rattle.tariff_syntax.specs.{Meaning.{at_hiring}, Tree.{Tree, tree_of}, Writable.{IsWritable}}
+pub use Rattle.{totals_record.specs.States.{first_state}, tariff_tree.specs.declared.context.Context.{Context}}
+pub use Rattle.tariff_tree.specs.{Meaning.{at_hiring}, Tree.{Tree, tree_of}, Writable.{IsWritable}}
 pub use Rattle.tariff_check.specs.{Amounts.{IsFitInitial, fees_in_force}, SoundTariff.{supplement_numbered, values_of}}
 pub use Rattle.tariff_check.specs.{Faults.{IsSound}, Sound.{IsSoundRate}, declared.values.Supplement.{Supplement}}
 pub use Rattle.tariff_check.specs.{Parts.{RateNumbers, supplement_of}, SoundLookups.{place_in_force, rate_in_force}}

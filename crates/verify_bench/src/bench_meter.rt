@@ -7,7 +7,7 @@ ghost use Rattle.verify_bench.specs.Common.{InHired, InStopped, IsSecond, Meter,
 ghost use Rattle.verify_bench.specs.Common.{interval_counted, interval_left, last_tick, local_at, longest_trip};
 ghost use Rattle.verify_bench.specs.Common.{pulses_so_far, roaming_checked, roaming_entered, ticks_so_far};
 ghost use Rattle.verify_bench.specs.{Common.{with_interval}, Settings.{setting_under}};
-ghost use Rattle.tariff_syntax.specs.declared.context.Context as contexts;
+ghost use Rattle.tariff_tree.specs.declared.context.Context as contexts;
 
 use crate::clock::local_time;
 use crate::explained::Explained;
@@ -18,7 +18,7 @@ use crate::telling::{Closing, explained};
 use seal_record::Params;
 use std::alloc::Global;
 use tariff_check::Checked;
-use tariff_syntax::Context;
+use tariff_tree::Context;
 use taxi_units::{HIRINGS_END, Key, Kind, NoMemory, Operating, ROAMING_MOST};
 
 /// How a trip that is held without supply goes on.

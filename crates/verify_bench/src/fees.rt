@@ -5,7 +5,7 @@ ghost use Rattle.verify_bench.specs.Common.{IsFitInitial, own_lines, own_values,
 
 use crate::lookups::value_at;
 use tariff_check::{Checked, Choice, Initial, InitialNumbers};
-use tariff_syntax::Context;
+use tariff_tree::Context;
 
 /// The fees of a hiring, with the number of the line of each in the text, counted from 1. The minimum fare has a line
 /// if the tariff had a minimum fare at the hiring.

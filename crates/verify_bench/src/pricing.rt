@@ -8,7 +8,7 @@ use crate::lookups::rate_at;
 use drive_modes::{Constant, Mode};
 use seal_record::Params;
 use tariff_check::{Checked, RateNumbers};
-use tariff_syntax::Context;
+use tariff_tree::Context;
 
 /// The place of the rate line by which an interval is charged, the way in which it is, and its charge.
 #[derive(Clone, Copy)]

@@ -1,7 +1,7 @@
 use Rattle.std.proofs.Common.{◌∙◌, ◌≡◌, IfOk, subst, sym}
-use Rattle.tariff_syntax.specs.{Reads.{IsParsed, Reads}, Tree.{tree_of}, declared.tariff.Tariff.{Tariff}}
-use Rattle.{tariff_check.specs.Faults.{IsSound}, tariff_compile.specs.Tables.{IsTablesOf, tables_of}}
-use Rattle.{meter_states.proofs.Laws.{made_by}, pocket_meter.proofs.OkValues.{was_ok}}
+use Rattle.{tariff_tree.specs.{Tree.{tree_of}, declared.tariff.Tariff.{Tariff}}, tariff_check.specs.Faults.{IsSound}}
+use Rattle.{tariff_syntax.specs.Reads.{IsParsed, Reads}, tariff_compile.specs.Tables.{IsTablesOf, tables_of}}
+use Rattle.{meter_texts.proofs.Laws.{made_by}, pocket_meter.proofs.OkValues.{was_ok}}
 use Rattle.pocket_meter.proofs.made_of.Goals as goal
 
 pub returns-clause-made : goal.returns-clause-made

@@ -1,4 +1,4 @@
-use Rattle.{std.proofs.Common.{Err, ap, sym}, meter_states.proofs.Laws.{made_by}, c_meter.proofs.Stops.{stop_or}}
+use Rattle.{std.proofs.Common.{Err, ap, sym}, meter_texts.proofs.Laws.{made_by}, c_meter.proofs.Stops.{stop_or}}
 use Rattle.c_meter.specs.Common.{NoMemory, tree_of}
 use Rattle.c_meter.proofs.making.made_of.Goals as goal
 

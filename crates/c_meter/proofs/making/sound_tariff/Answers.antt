@@ -1,4 +1,4 @@
-use Rattle.{std.proofs.Common.{subst, sym}, tariff_syntax.specs.declared.tariff.Tariff.{Tariff}}
+use Rattle.{std.proofs.Common.{subst, sym}, tariff_tree.specs.declared.tariff.Tariff.{Tariff}}
 use Rattle.c_meter.specs.Common.{IsSound, Reads, tree_of}
 use Rattle.c_meter.proofs.making.sound_tariff.Goals as goal
 

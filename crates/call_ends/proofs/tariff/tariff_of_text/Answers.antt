@@ -1,5 +1,5 @@
 use Rattle.std.proofs.Common.{◌∙◌, ◌≡◌, None, Ok, ap, sym}
-use Rattle.{tariff_syntax.specs.declared.tariff.Tariff.{Tariff}, call_ends.specs.Common.{tree_of}}
+use Rattle.{tariff_tree.specs.declared.tariff.Tariff.{Tariff}, call_ends.specs.Common.{tree_of}}
 use Rattle.{tariff_check.proofs.Laws.{sound_tariffs_have_sound_parts-none}, call_ends.specs.Ending.{unsound_for}}
 use Rattle.call_ends.proofs.Tariffs.{lines_of_starved, lines_of_tariff, sound_of, unsound-read, unsound_of}
 use Rattle.call_ends.specs.declared.tariff.TextFault.TheVariants as TextFault

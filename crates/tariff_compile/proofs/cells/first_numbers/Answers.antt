@@ -1,6 +1,6 @@
 use Rattle.std.proofs.Common.{[], ℕ, ◌++◌, ◌+◌, ◌<◌, ◌∙◌, ◌∷◌, ◌≡◌, ◌≤◌, List, Option, Some, ap, arith, length, map}
 use Rattle.std.proofs.{Common.{sym, take}, lemmas.{List.{length-map, map-append}, Option.{slice_get_within}}}
-use Rattle.{std.proofs.lemmas.Grind.{common_steps}, tariff_syntax.proofs.Laws.{first_lines_hold-conditions}}
+use Rattle.{std.proofs.lemmas.Grind.{common_steps}, tariff_tree.proofs.Laws.{first_lines_hold-conditions}}
 use Rattle.tariff_compile.specs.Common.{Choice, Context, Line, own_conditions, place_number, place_of, tree_of, when_at}
 use Rattle.tariff_compile.proofs.{Blocks.{at_place}, Marked.{first_holds}}
 use Rattle.tariff_compile.proofs.cells.first_numbers.Goals as goal

@@ -1,5 +1,5 @@
 use Rattle.{std.proofs.Common.{map, refl}, tariff_syntax.{specs.Parsed.{entries_read}, proofs.LineFaults.{fault_is}}}
-use Rattle.tariff_syntax.specs.{TextLines.{lines_of}, Tree.{line_of}}
+use Rattle.tariff_syntax.specs.{Common.{line_of}, TextLines.{lines_of}}
 use Rattle.tariff_syntax.proofs.parsing.lines.Goals as goal
 
 pub returns-in-Err-NoMemory : goal.returns-in-Err-NoMemory

@@ -1,5 +1,5 @@
 use Rattle.std.proofs.Common.{◌+◌, ◌≡◌, ◌≤◌, length, map}
-use Rattle.tariff_syntax.specs.{Parsed.{before, entries_read}, TextLines.{lines_of}, Tree.{line_of}}
+use Rattle.tariff_syntax.specs.{Common.{line_of}, Parsed.{before, entries_read}, TextLines.{lines_of}}
 use Rattle.tariff_syntax.proofs.parsing.lines.Given as goal
 
 abbrev pub invariant-loop-line : goal.invariant-loop-line

@@ -1,5 +1,5 @@
 use Rattle.std.proofs.{Common.{[], ℕ, ◌++◌, ◌∙◌, ◌∷◌, List, ap, append_assoc, arith}, lemmas.Grind.{common_steps}}
-use Rattle.tariff_syntax.specs.{Condition.{condition_of}, PrintedCondition.{condition_at, whole}}
+use Rattle.tariff_syntax.specs.{Common.{condition_of}, PrintedCondition.{condition_at, whole}}
 use Rattle.tariff_syntax.proofs.spelling.+spelling.Goals as goal
 
 pub push_closed-returns : goal.push_closed-returns

@@ -1,5 +1,5 @@
 use Rattle.std.proofs.Common.{◌++◌, ◌≡◌, drop, map}
-use Rattle.tariff_syntax.specs.{Printed.{lines_text}, Tree.{line_of}}
+use Rattle.tariff_syntax.specs.{Common.{line_of}, Printed.{lines_text}}
 use Rattle.tariff_syntax.proofs.writing.push_lines.Given as goal
 
 abbrev pub invariant-loop-line : goal.invariant-loop-line

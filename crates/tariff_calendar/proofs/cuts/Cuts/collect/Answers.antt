@@ -1,5 +1,5 @@
 use Rattle.std.proofs.{Common.{◌∙◌, ◌≡◌, ◌≤◌, ap, map}, lemmas.List.Elements.{All-weaker}}
-use Rattle.{tariff_syntax.specs.Tree.{tree_of}, tariff_check.proofs.Laws.{sound_tariffs_have_sound_parts-parts}}
+use Rattle.{tariff_tree.specs.Tree.{tree_of}, tariff_check.proofs.Laws.{sound_tariffs_have_sound_parts-parts}}
 use Rattle.tariff_calendar.specs.{Common.{Distance, IsFromTo, cuts_of, greatest}, Lists.{lists_of, pulses_for}}
 use Rattle.tariff_calendar.proofs.Lists.{AreOrdered-same, distances_fit}
 use Rattle.tariff_calendar.proofs.cuts.Cuts.collect.Goals as goal

@@ -1,5 +1,0 @@
-use Rattle.tariff_syntax.{specs.Choices.{rate_part}, proofs.FirstChoices.{IsPassed}}
-use Rattle.tariff_syntax.proofs.meaning.rate_of.Given as goal
-
-abbrev pub invariant-loop-line : goal.invariant-loop-line
-invariant-loop-line l = IsPassed rate_part l.x l.tariff.lines l.place l.line-index
