@@ -4,10 +4,9 @@ use Rattle.tariff_commands.specs.{Check.{check_command}, Form.{form_command}, Li
 use Rattle.tariff_commands.specs.{Compare.{compare_command}, Faults.{faults_command}, Tables.{tables_command}}
 use Rattle.store_commands.specs.{Mark.{mark_command}, Port.{port_command}, Seal.{seal_command}, Totals.{totals_command}}
 use Rattle.store_commands.specs.{Offsets.{offsets_command}, Sealed.{sealed_command}, Shifts.{shifts_command}}
-use Rattle.drive_commands.specs.{Bench.{bench_command}, Explain.{explain_command}, Generate.{gen_command}}
-use Rattle.{drive_commands.specs.{Fare.{fare_command}, Run.{run_command}}, commands.specs.declared.words.Row.{Row}}
-use Rattle.commands.specs.{Common.{Command}, NoCommand.{no_command}, declared.words.Row.TheVariants.{Totals}}
-use Rattle.commands.specs.Words.{row_of}
+use Rattle.{bench_commands.specs.{Bench.{bench_command}, Explain.{explain_command}}, commands.specs.Words.{row_of}}
+use Rattle.drive_commands.specs.{Fare.{fare_command}, Generate.{gen_command}, Run.{run_command}}
+use Rattle.commands.specs.{Common.{Command}, NoCommand.{no_command}, declared.words.Row.{Row, TheVariants.{Totals}}}
 use Rattle.commands.specs.declared.words.Row.TheVariants.{Bench, Check, Compare, Explain, Fare, Faults, Form, Gen}
 use Rattle.commands.specs.declared.words.Row.TheVariants.{Lines, Mark, Offsets, Port, Run, Seal, Sealed, Shifts, Tables}
 

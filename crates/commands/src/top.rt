@@ -9,9 +9,9 @@ ghost use Rattle.commands.specs.Called.{ComesToAnswer, MayLeaveSealingBy, TakesS
 ghost use Rattle.commands.specs.{Command.{IsReadOnlyRow}, Common.{IsAtRest, IsCall, KeepsStore, WritesNothing}};
 
 use crate::words::{Row, row_in};
+use bench_commands::bench::bench;
+use bench_commands::explain::explain;
 use call_ends::{Ended, finish};
-use drive_commands::bench::bench;
-use drive_commands::explain::explain;
 use drive_commands::fare::fare;
 use drive_commands::generate::generate;
 use drive_commands::run::run;

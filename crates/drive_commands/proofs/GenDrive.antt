@@ -2,17 +2,18 @@
 use Rattle.std.{specs.Prelude.{Bool, false, is_err, is_ok, nat_lt, pos, suc, true, zero}, proofs.lemmas.Bool.{lt-ltb}}
 use Rattle.std.proofs.Common.{[], ℕ, ◌*◌, ◌++◌, ◌+◌, ◌<◌, ◌∙◌, ◌∷◌, ◌≡◌, ◌≢◌, ◌≤◌, Err, List, None, Ok, Option, Result}
 use Rattle.std.proofs.{Common.{Some, ap, arith, inl, length, refl, subst, sym}, lemmas.List.{append-nil}}
-use Rattle.{slot_store.proofs.Laws.{body_found}, drive_text.specs.{Drive.{bad_at_end}, Ending.{stream_limit}}}
+use Rattle.{taxi_units.specs.declared.event.Event.{Event}, slot_store.specs.declared.found.SlotFault.{SlotFault}}
+use Rattle.slot_store.{specs.{Scan.{found_at}, declared.found.Found.{Found}}, proofs.Laws.{body_found}}
 use Rattle.interval_clock.specs.Offsets.{EachPlace, IsInRangeAt, IsOffsetList, RisesAt}
-use Rattle.{meter_store.specs.Sealing.{totals_found}, meter_model.specs.Setting.{IsSealOf}}
-use Rattle.{meter_states.specs.Setting.{IsTariffOf}, meter_run.specs.Supply.{drop_steps, is_supplied}}
-use Rattle.call_ends.{specs.Making.{EndsWithText}, proofs.Laws.{course-bad_tariff, course-no_memory}}
-use Rattle.drive_commands.specs.Common.{Answer, Answered, Durable, EndsUnprinted, Event, Found, HasState}
-use Rattle.drive_commands.specs.Common.{IsBoundedByDrive, IsSettingOf, IsTablesOf, Refusal, Rose, Seal, Single}
-use Rattle.drive_commands.specs.Common.{SlotFault, TableParts, TextFault, Tree, Whole, bad_tariff, drive_end, ended_for}
-use Rattle.drive_commands.specs.Common.{events_in, first_second, found_at, generated, tables_of, tariff_in}
+use Rattle.{drive_text.specs.{Drive.{bad_at_end}, Ending.{stream_limit}}, meter_store.specs.Sealing.{totals_found}}
+use Rattle.{meter_model.specs.Setting.{IsSealOf}, meter_states.specs.Setting.{IsTariffOf}}
+use Rattle.{meter_run.specs.Supply.{drop_steps, is_supplied}, call_ends.specs.Ending.{EndsUnprinted, ended_for}}
+use Rattle.{call_ends.specs.Making.{EndsWithText}, drive_commands.specs.Generate.{state_after}}
+use Rattle.call_ends.{specs.declared.tariff.TextFault.{TextFault}, proofs.Laws.{course-bad_tariff, course-no_memory}}
+use Rattle.drive_commands.specs.Common.{Answer, Answered, Durable, HasState, IsBoundedByDrive, IsSettingOf, IsTablesOf}
+use Rattle.drive_commands.specs.Common.{Refusal, Rose, Seal, Single, TableParts, Tree, Whole, bad_tariff, drive_end}
+use Rattle.drive_commands.specs.Common.{events_in, first_second, generated, tables_of, tariff_in}
 use Rattle.drive_commands.specs.Generate.{city_text, gen_answer, gen_command, generated_setting, generated_text}
-use Rattle.drive_commands.specs.Generate.{state_after}
 use Rattle.totals_record.specs.Reading as totals
 use Rattle.meter_store.specs.Stored as states
 use Rattle.call_ends.specs.declared.ending.Ended.TheVariants as ended

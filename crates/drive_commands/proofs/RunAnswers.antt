@@ -4,17 +4,18 @@ use Rattle.std.proofs.{Common.{inl, inr, length, refl, subst, sym}, lemmas.List.
 use Rattle.outside.specs.{Runs.{IsAtRest as NothingFlies}, declared.files.Files.{Ghosts as FileGhosts}}
 use Rattle.{outside.proofs.Laws.{begins_not}, slot_store.specs.Syncs.{IsAsHeld, ReadsOnly}}
 use Rattle.{slot_store.proofs.Laws.{from_sync_as}, totals_record.specs.declared.change.Change.{Change}}
-use Rattle.{totals_record.proofs.Laws.{changes_add_up}, call_ends.specs.{Ending.{EndsOnDevices}, Stream.{TakesBytes}}}
+use Rattle.{totals_record.proofs.Laws.{changes_add_up}, call_ends.specs.Ending.{EndsOnDevices, IsRefusal}}
 use Rattle.meter_run.{specs.Points.{HasEntries}, proofs.Laws.{keeps_read, receipts_have_their_entries-run}}
-use Rattle.call_ends.{specs.{Course.{NoMemory}, Reads.{Follows}}, proofs.Laws.{bytes-read}}
-use Rattle.store_commands.{specs.Opened.{IsBarred, OnlyOpens}, proofs.Laws.{none, owed-refused}}
+use Rattle.call_ends.{specs.{Course.{NoMemory}, LastLine.{refused_as}, Stream.{TakesBytes}}, proofs.Laws.{bytes-read}}
+use Rattle.{call_ends.specs.Reads.{Follows}, store_commands.specs.Opened.{IsBarred, OnlyOpens}}
+use Rattle.{store_commands.proofs.Laws.{none, owed-refused}, drive_commands.specs.Common.{texts}}
 use Rattle.drive_commands.specs.Common.{Answer, Answered, Begins, BoardFailed, Carries, CommitsInTurn, Deed, Drive}
-use Rattle.drive_commands.specs.Common.{Ended, Ghosts, HasState, IsCutOfDeeds, IsRefusal, LeavesFromSync, Prints}
-use Rattle.drive_commands.specs.Common.{ReadFailed, Rose, SameBut, after_deeds, changes_of, line_in, line_of}
-use Rattle.drive_commands.{specs.Common.{opening_in, refused_as, status_of, texts}, proofs.RunStarts.{start_stands}}
+use Rattle.drive_commands.specs.Common.{Ended, Ghosts, HasState, IsCutOfDeeds, LeavesFromSync, Prints, ReadFailed, Rose}
+use Rattle.drive_commands.specs.Common.{SameBut, after_deeds, changes_of, line_in, line_of, opening_in, status_of}
 use Rattle.drive_commands.specs.Run.{IsCutOfCourse, IsCutOfRun, IsOfTotals, StandsAfterRun, Start, bytes_in, deeds_in}
 use Rattle.drive_commands.specs.Run.{run_answer, run_command, setting_in, shown_in_run, start_at, start_of, tables_in}
 use Rattle.drive_commands.{specs.RunSteps.{HasNotBegun, RunReachesLine}, proofs.RunCuts.{first_cut, last_cut}}
+use Rattle.drive_commands.proofs.RunStarts.{start_stands}
 use Rattle.call_ends.specs.declared.ending.Ended.TheVariants as ended
 
 -- over no bytes a run does nothing

@@ -1,61 +1,18 @@
 -- The command `run`: how it begins.
-use Rattle.std.{specs.Cmp.Lexicographic.{pointwise}, proofs.Common.{length, refl, subst, sym, take, true}}
-use Rattle.std.{specs.{Option.{ForSome}, Prelude.{nat_eq}}, proofs.lemmas.Bool.{le-ltb, lt-ltb}}
-use Rattle.std.proofs.Common.{ℕ, ◌<◌, ◌∙◌, ◌≡◌, ◌≤◌, Bool, Err, List, Ok, Result, ap, arith, drop, false, if◌then◌else◌}
-use Rattle.{sha2.specs.Sha256.{sha256}, outside.proofs.Laws.{same_slice}, slot_store.specs.Scan.{IsAnswer, verdict_on}}
-use Rattle.slot_store.{specs.declared.found.Found.TheVariants.{Blank, Latest}, proofs.Laws.{answer_is, at_stands}}
+use Rattle.{std.{specs.Option.{ForSome}, proofs.Common.{subst, take, true}}, outside.proofs.Laws.{same_slice}}
+use Rattle.std.proofs.Common.{ℕ, ◌∙◌, ◌≡◌, Bool, Err, List, Ok, Result, ap, arith, drop, false, if◌then◌else◌, refl}
+use Rattle.slot_store.specs.{Scan.{IsAnswer, found_at, verdict_on}, declared.found.Found.TheVariants.{Blank, Latest}}
+use Rattle.slot_store.{specs.declared.found.{Found.{Found}, SlotFault.{SlotFault}}, proofs.Laws.{answer_is, at_stands}}
 use Rattle.{slot_store.specs.declared.pair.Place.{Place}, call_ends.proofs.Laws.{refusal_by}}
-use Rattle.store_commands.specs.Opening.{opening_by}
-use Rattle.drive_commands.specs.Common.{Durable, Ended, Fits, Found, IsSealedIn, Opening, Refusal, SameBut, Seal}
-use Rattle.drive_commands.specs.Common.{SlotFault, StoreFault, TextFault, TooLong, Tree, ended_for, found_at}
-use Rattle.drive_commands.specs.{Common.{opening_in, store_of, tables_of, tariff_in}, Run.{start_with, tables_in}}
-use Rattle.drive_commands.specs.Run.{IsOfTotals, Start, accepted, does_hold_fit, sealed_tariff, start_of, start_over}
-use Rattle.drive_commands.{specs.RunSteps.{AreNoTables, HasNotBegun, IsNoTables}, proofs.HeldTripFits.{Decides-hold}}
+use Rattle.store_commands.specs.{Opening.{opening_by}, declared.opening.{Opening.{Opening}, StoreFault.{StoreFault}}}
+use Rattle.{store_commands.specs.TariffSteps.{AreNoTables}, drive_commands.specs.RunSteps.{HasNotBegun}}
+use Rattle.drive_commands.specs.Common.{Durable, Ended, Fits, IsSealedIn, SameBut, Seal, Tree, opening_in}
+use Rattle.drive_commands.{specs.Common.{sealed_tariff, store_of, tables_of}, proofs.HeldTripFits.{Decides-hold}}
+use Rattle.drive_commands.specs.Run.{IsOfTotals, Start, does_hold_fit, start_of, start_over, start_with, tables_in}
 use Rattle.totals_record.specs.Reading as totals
 use Rattle.meter_store.specs.Stored as states
 use Rattle.seal_record.specs.Decoding as seals
 use Rattle.call_ends.specs.declared.ending.Ended.TheVariants as ended
-use Rattle.call_ends.specs.declared.tariff.TextFault.TheVariants as texts
-
--- ---- the sealed tariff
-
--- a text of at most 65,536 bytes with the sealed digest
-pub tariff-accepted : (digest text : List ℕ) → length text ≤ 65536 → pointwise nat_eq digest (sha256 text) ≡ true
-    → sealed_tariff digest text ≡ accepted (tariff_in text)
-tariff-accepted digest text few same = rw (le-ltb 65536 (length text) few, same) refl
-
-pub tariff-wrong : (digest text : List ℕ) → length text ≤ 65536 → pointwise nat_eq digest (sha256 text) ≡ false
-    → sealed_tariff digest text ≡ Err (ended.WrongTariff digest (sha256 text))
-tariff-wrong digest text few other = rw (le-ltb 65536 (length text) few, other) refl
-
-pub tariff-long : (digest text : List ℕ) → 65536 < length text
-    → sealed_tariff digest text ≡ Err (ended.BadTariff TooLong)
-tariff-long digest text long = rw (lt-ltb 65536 (length text) long) refl
-
-pub no_tables-read : (digest text : List ℕ) (read_failed : Type 0) (fault : TextFault)
-    → (fault ≡ texts.ReadFault → read_failed)
-    → ((why : Refusal) → fault ≡ texts.Refused why → (why ≡ TooLong) × (65536 < length text))
-    → AreNoTables digest text read_failed (ended_for fault)
-no_tables-read digest text read_failed texts.ReadFault failed long = failed refl
-no_tables-read digest text read_failed (texts.Refused why) failed long =
-    let both = long why refl in
-    tariff-long digest text both.1 ∙ ap (λ (w : Refusal). Err (ended.BadTariff w)) (sym both.0)
-no_tables-read digest text read_failed texts.NoMemory failed long = tt
-
-pub no_tables-made : (digest text : List ℕ) (read_failed : Type 0) (why : Ended) → sealed_tariff digest text
-    ≡ accepted (tariff_in text) → IsNoTables text why → AreNoTables digest text read_failed why
-no_tables-made digest text read_failed ended.NoMemory e h = tt
-no_tables-made digest text read_failed (ended.BadTariff why) e h = e ∙ ap accepted h
-no_tables-made digest text read_failed why e h = absurd h
-
--- more may be known of a read that failed
-pub no_tables-as : (digest text : List ℕ) (read_failed more : Type 0) (why : Ended) → (read_failed → more)
-    → AreNoTables digest text read_failed why → AreNoTables digest text more why
-no_tables-as digest text read_failed more ended.ReadFault is h = is h
-no_tables-as digest text read_failed more ended.NoMemory is h = tt
-no_tables-as digest text read_failed more (ended.BadTariff why) is h = h
-no_tables-as digest text read_failed more (ended.WrongTariff sealed own) is h = h
-no_tables-as digest text read_failed more why is h = absurd h
 
 -- ---- the start
 

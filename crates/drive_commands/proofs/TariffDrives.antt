@@ -2,11 +2,12 @@
 use Rattle.std.{specs.Prelude.{◌∷◌, ◌⊎◌, pos, suc, zero}, proofs.lemmas.List.{append-nil}}
 use Rattle.std.proofs.Common.{[], ℕ, ◌++◌, ◌∙◌, ◌≡◌, Err, List, Ok, Result, ap, arith, inl, inr, refl, subst, sym}
 use Rattle.interval_clock.specs.Offsets.{EachPlace, IsInRangeAt, IsOffsetList, RisesAt}
-use Rattle.{drive_text.specs.Ending.{ShowsEnd}, meter_run.specs.{Drives.{RunsDrive, RunsTo}, Texts.{drive_shown}}}
-use Rattle.{call_ends.specs.Ending.{EndsByCourse}, drive_commands.specs.{Common.{tariff_in}, DriveEnds.{ended_by}}}
-use Rattle.drive_commands.specs.Common.{Answer, Answered, BadAt, Begins, BoardFailed, Ended, Endless, IsGoing}
-use Rattle.drive_commands.specs.Common.{IsSettingOf, ReadFailed, Refusal, RunFault, Seal, StreamEnd, TableParts}
-use Rattle.drive_commands.specs.Common.{TellsEnd, Tree, Whole, bad_tariff, drive_end, first_second, line_of, status_of}
+use Rattle.{drive_text.specs.Ending.{ShowsEnd, TellsEnd}, meter_run.specs.Drives.{RunsDrive, RunsTo}}
+use Rattle.{meter_run.specs.Texts.{drive_shown}, call_ends.specs.Ending.{EndsByCourse}}
+use Rattle.drive_commands.specs.Common.{Answer, Answered, BadAt, Begins, BoardFailed, Ended, Endless, IsSettingOf}
+use Rattle.drive_commands.specs.Common.{ReadFailed, Refusal, RunFault, Seal, StreamEnd, TableParts, Tree, Whole}
+use Rattle.drive_commands.specs.Common.{bad_tariff, drive_end, first_second, line_of, status_of, tariff_in}
+use Rattle.drive_commands.specs.DriveEnds.{ended_by}
 use Rattle.drive_commands.specs.Fare.{drive_answer, fare_answer, fare_command, setting_of, shown_under}
 use Rattle.meter_run.specs.declared.fault.RunFault.TheVariants as faults
 use Rattle.call_ends.specs.declared.ending.Ended.TheVariants as ended
@@ -120,11 +121,7 @@ module _ (k : ℕ) (contents left : ℕ → List ℕ) (image : List ℕ) (read_f
     });
   }
 
--- a drive goes on of which nothing was taken
-pub begins_going : IsGoing []
-begins_going = record { good = refl; few = omega arith }
-
--- the same of a run that ended so
+-- a run that ended so
 pub read_fault-ran : (ran : Result (Unit {0}) RunFault) → ended_by ran ≡ ended.ReadFault → ran ≡ Err faults.ReadFault
 read_fault-ran (Ok u) e = absurd cc
 read_fault-ran (Err faults.ReadFault) e = refl

@@ -1,9 +1,9 @@
 -- Rules: the command `fare TARIFF DRIVE CONSTANT`.
 use Rattle.std.specs.Prelude.{[], ℕ, ◌≡◌, ◌⊎◌, Err, List, Ok, Result, Some, pos}
-use Rattle.{meter_model.specs.Setting.{under_offset}, meter_run.specs.Texts.{drive_shown}}
-use Rattle.{call_ends.specs.LastLine.{bad_drive_line, endless_drive_line}, drive_commands.specs.Common.{tariff_in}}
-use Rattle.drive_commands.specs.Common.{Answer, BadAt, Command, Drive, Endless, IsBoundedByDrive, IsGoing, Refusal}
-use Rattle.drive_commands.specs.Common.{Setting, Single, StreamEnd, Tree, Whole, bad_tariff, drive_end, shows}
+use Rattle.{drive_text.specs.Ending.{IsGoing}, meter_model.specs.Setting.{under_offset}, call_ends.specs.Answer.{shows}}
+use Rattle.{meter_run.specs.Texts.{drive_shown}, call_ends.specs.LastLine.{bad_drive_line, endless_drive_line}}
+use Rattle.drive_commands.specs.Common.{Answer, BadAt, Command, Drive, Endless, IsBoundedByDrive, Refusal, Setting}
+use Rattle.drive_commands.specs.Common.{Single, StreamEnd, Tree, Whole, bad_tariff, drive_end, tariff_in}
 
 -- the answer to a drive shows its text. It has the status 3 and a last line if a line of the drive is bad or it has no
 -- end.

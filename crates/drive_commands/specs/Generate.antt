@@ -1,9 +1,10 @@
 -- Rules: the command `gen SEED N`.
 use Rattle.std.specs.Prelude.{[], ℕ, ◌*◌, ◌++◌, ◌+◌, ◌≡◌, ◌≤◌, Err, List, None, Ok, Result, codes, decimal, length, pos}
-use Rattle.{meter_model.specs.Setting.{under_offset}, meter_run.specs.Runs.{run_deeds}}
-use Rattle.{call_ends.specs.NumberLine.{number_line}, store_commands.specs.TotalsText.{summary_text}}
+use Rattle.{totals_record.specs.States.{first_state}, meter_model.specs.Setting.{under_offset}}
+use Rattle.{meter_run.specs.Runs.{run_deeds}, call_ends.specs.{Answer.{shows}, NumberLine.{number_line}}}
+use Rattle.store_commands.specs.TotalsText.{summary_text}
 use Rattle.drive_commands.specs.Common.{Answer, Command, Durable, Refusal, Setting, Single, Tree, after_deeds}
-use Rattle.drive_commands.specs.Common.{bad_tariff, events_in, first_state, generated, shows, tariff_in}
+use Rattle.drive_commands.specs.Common.{bad_tariff, events_in, generated, tariff_in}
 
 -- the city tariff, under which generated drives are run
 unfoldable pub city_text : List ℕ

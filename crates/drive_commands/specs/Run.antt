@@ -1,31 +1,19 @@
 -- Rules: the command `run TARIFF DRIVE`.
-use Rattle.{std.specs.{Cmp.Lexicographic.{pointwise}, Prelude.{length, nat_eq, nat_lt}}, sha2.specs.Sha256.{sha256}}
 use Rattle.std.specs.Prelude.{[], ℕ, ◌++◌, ◌∷◌, ◌≡◌, ◌≢◌, ◌⊎◌, Bool, Err, List, Ok, Option, Result, Some, if◌then◌else◌}
 use Rattle.{taxi_units.specs.Test.{if_some}, outside.specs.declared.files.Files.{Ghosts as FileGhosts}}
-use Rattle.{outside.specs.{Disk.{IsWithin}, Runs.{IsAtRest, LeavesOnly}}, totals_record.specs.declared.trip.Trip.{Trip}}
+use Rattle.{outside.specs.{Disk.{IsWithin}, Runs.{IsAtRest, LeavesOnly}}, drive_text.specs.Ending.{IsGoing}}
+use Rattle.{totals_record.specs.declared.trip.Trip.{Trip}, meter_model.specs.Setting.{setting_by}}
 use Rattle.{meter_run.specs.Runs.{run_deeds}, call_ends.specs.{Course.{Course, NoMemory}, Unwritten.{WritesNothing}}}
-use Rattle.{call_ends.specs.Call.{IsCall}, drive_commands.specs.Common.{tables_of, tariff_in, texts}}
+use Rattle.call_ends.specs.{Call.{IsCall}, LastLine.{refused_as}}
+use Rattle.store_commands.specs.declared.opening.{Opening.{Opening}, StoreFault.{StoreFault}}
 use Rattle.drive_commands.specs.Common.{Answer, Answered, Begins, BoardFailed, Command, CommitsInTurn, Deed, Drive}
-use Rattle.drive_commands.specs.Common.{Durable, Ended, Ghosts, HasState, IsBoundedByDrive, IsCutOfDeeds, IsGoing}
-use Rattle.drive_commands.specs.Common.{IsSealedIn, LeavesFromSync, Opening, Prints, ReadFailed, Refusal, SameBut, Seal}
-use Rattle.drive_commands.specs.Common.{Setting, StoreFault, TableParts, TooLong, Tree, after_deeds, changes_of}
-use Rattle.drive_commands.specs.Common.{drive_end, fits_test, line_in, opening_in, refused_as, setting_by, store_of}
-use Rattle.drive_commands.specs.Fare.{drive_answer}
+use Rattle.drive_commands.specs.Common.{Durable, Ended, Ghosts, HasState, IsBoundedByDrive, IsCutOfDeeds, IsSealedIn}
+use Rattle.drive_commands.specs.Common.{LeavesFromSync, Prints, ReadFailed, SameBut, Seal, Setting, TableParts, Tree}
+use Rattle.drive_commands.specs.Common.{after_deeds, changes_of, drive_end, fits_test, line_in, opening_in}
+use Rattle.drive_commands.specs.{Common.{sealed_tariff, store_of, tables_of, texts}, Fare.{drive_answer}}
 use Rattle.call_ends.specs.declared.ending.Ended.TheVariants as ended
 
 -- ---- how a run begins
-
--- a tariff that was read is accepted if it is sound, and else the run ends with `BadTariff`
-abbrev pub accepted : Result Tree Refusal → Result Tree Ended
-accepted (Err why) = Err (ended.BadTariff why)
-accepted (Ok t) = Ok t
-
--- a text is accepted as the sealed tariff, or refused for its length, or else for its digest, or else for its content
-abbrev pub sealed_tariff : (digest text : List ℕ) → Result Tree Ended
-sealed_tariff digest text =
-    if nat_lt 65536 (length text) then Err (ended.BadTariff TooLong)
-    else (if pointwise nat_eq digest (sha256 text) then accepted (tariff_in text)
-    else Err (ended.WrongTariff digest (sha256 text)))
 
 -- the test `does_hold_fit` is true if no trip is held, or the held one fits the tables: its position, zone, rest, cover
 -- and supplements may come from a hiring by them, as the fact of `fits_test` says

@@ -1,21 +1,14 @@
 -- For proofs: what the command `run` has before its last line is printed. Run says what a run is.
 use Rattle.std.specs.{Option.{ForSome}, Prelude.{ℕ, ◌≡◌, ◌≢◌, Err, List, Ok}}
 use Rattle.outside.specs.{Runs.{IsAtRest, MayHold}, declared.files.Files.{Ghosts as FileGhosts}}
-use Rattle.call_ends.specs.{Ending.{EndsOnDevices}, Unwritten.{LeavesUnwritten}}
-use Rattle.call_ends.specs.declared.ending.Ended.TheVariants.{BadTariff, NoMemory, WrongTariff}
-use Rattle.drive_commands.specs.Common.{Begins, BoardFault, CommitsInTurn, Durable, Ended, Fits, Ghosts, IsRefusal}
-use Rattle.drive_commands.specs.Common.{IsSealedIn, IsTablesOf, LeavesFromSync, ReadFault, Seal, TableParts, Tree}
-use Rattle.drive_commands.specs.Common.{changes_of, line_of, opening_in, status_of, tables_of, tariff_in}
-use Rattle.drive_commands.specs.Run.{IsCutOfCourse, StandsAfterRun, Start, bytes_in, deeds_in, run_command}
-use Rattle.drive_commands.specs.Run.{sealed_tariff, start_at, start_of, start_with}
+use Rattle.call_ends.specs.{Ending.{EndsOnDevices, IsRefusal}, Unwritten.{LeavesUnwritten}}
+use Rattle.call_ends.specs.declared.ending.Ended.TheVariants.{BoardFault, NoMemory, ReadFault}
+use Rattle.drive_commands.specs.Common.{Begins, CommitsInTurn, Durable, Ended, Fits, Ghosts, IsSealedIn, IsTablesOf}
+use Rattle.drive_commands.specs.Common.{LeavesFromSync, Seal, TableParts, Tree, changes_of, line_of, opening_in}
+use Rattle.drive_commands.specs.{Common.{sealed_tariff, status_of, tables_of}, Run.{start_of, start_with}}
+use Rattle.drive_commands.specs.Run.{IsCutOfCourse, StandsAfterRun, Start, bytes_in, deeds_in, run_command, start_at}
 
 -- ---- the tables of the sealed tariff
-
--- a text has no tables if it is refused or memory ran out
-abbrev pub IsNoTables : (text : List ℕ) → Ended → Type 0
-IsNoTables text NoMemory = Unit {0}
-IsNoTables text (BadTariff why) = tariff_in text ≡ Err why
-IsNoTables text why = ⊥
 
 -- tables are sealed ones if they are those of a text's tariff, and the tariff is the sealed one
 pub record AreSealedTables (seal : Seal) (text : List ℕ) (tables : TableParts) : Type 0 where
@@ -23,14 +16,6 @@ pub record AreSealedTables (seal : Seal) (text : List ℕ) (tables : TableParts)
   pub accepted : sealed_tariff seal.digest text ≡ Ok tree
   pub compiled : IsTablesOf tree tables
   pub value : tables ≡ tables_of tree seal.params.constant
-
--- no tables were made of a text that should be the sealed one if a read failed, memory ran out, or it is refused
-abbrev pub AreNoTables : (digest text : List ℕ) → (read_failed : Type 0) → Ended → Type 0
-AreNoTables digest text read_failed ReadFault = read_failed
-AreNoTables digest text read_failed NoMemory = Unit {0}
-AreNoTables digest text read_failed (BadTariff why) = sealed_tariff digest text ≡ Err (BadTariff why)
-AreNoTables digest text read_failed (WrongTariff sealed own) = sealed_tariff digest text ≡ Err (WrongTariff sealed own)
-AreNoTables digest text read_failed why = ⊥
 
 -- ---- how a run begins
 

@@ -9,8 +9,8 @@ use meter_run::print_drive;
 use outside::{Files, Printer, STORE_SIZE};
 use std::alloc::Global;
 use std::sync::ledger::Ledger;
-use tariff_commands::tables_of_word;
 use taxi_units::Steps;
+use word_tables::tables_of_word;
 
 /// Reads the tariff of word 1, and carries out the drive of word 2 under its tables, without a store.
 #[tactic(auto, using(call_ends::proofs::Laws::board_runs))]

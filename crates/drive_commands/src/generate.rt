@@ -19,11 +19,11 @@ use slot_store::{Found, scan};
 use std::alloc::Global;
 use std::sync::ledger::Ledger;
 use store_commands::push_summary;
-use tariff_commands::tables_of_text;
 use tariff_compile::Tables;
 use taxi_units::{FIRST_SECOND, Line, Steps, push_bytes, push_number};
 use totals_record::Durable;
 use verify_bench::{Generator, generated_events};
+use word_tables::tables_of_text;
 
 /// The city tariff, under which generated drives are run.
 const CITY: &[u8] = b"decimals 2\nstep 0.20 ahead\npositions 2\nzones 2\nholiday 2026-01-01\n\

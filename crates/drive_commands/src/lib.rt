@@ -1,18 +1,8 @@
-//! The commands that go through a drive: on a store, without one, with readings, or to explain its fares.
+//! The commands that carry out a drive on the meter: on a store, without one, or a drive that is generated.
 #![tactic(auto)]
 
-pub mod bench;
 mod drive_ends;
-pub mod explain;
-mod explained_lines;
-mod explained_text;
 pub mod fare;
 mod fare_seal;
 pub mod generate;
-mod judgement;
-mod new_store_laws;
 pub mod run;
-mod sealed_tariff;
-mod whole_drive;
-
-pub use new_store_laws::explanations_are_of_the_run;

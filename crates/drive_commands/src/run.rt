@@ -1,11 +1,11 @@
 //! The command `run`.
 ghost use Rattle.std.specs.{Option.{ForSome}, Prelude.{ℕ, ◌+◌, ◌↔◌, ◌≡◌, ◌≤◌, Err, IfErr, IfOk, IsTrue, List, Ok}};
-ghost use Rattle.drive_commands.specs.Common.{Carries, Fits, ReadsWord, Rose, opening_in, store_of};
+ghost use Rattle.{call_ends.specs.Reads.{ReadsWord}, store_commands.specs.TariffSteps.{AreNoTables}};
+ghost use Rattle.drive_commands.specs.Common.{Carries, Fits, Rose, opening_in, store_of};
 ghost use Rattle.drive_commands.specs.Run.{does_hold_fit, run_command};
-ghost use Rattle.drive_commands.specs.RunSteps.{AreNoTables, AreSealedTables, HasBegun, HasNotBegun, RunReachesLine};
+ghost use Rattle.drive_commands.specs.RunSteps.{AreSealedTables, HasBegun, HasNotBegun, RunReachesLine};
 
 use crate::drive_ends::ended_of;
-use crate::sealed_tariff::read_sealed;
 use call_ends::Ended;
 use meter_run::run_events;
 use meter_states::fits;
@@ -13,7 +13,7 @@ use outside::{Board, Files, STORE_SIZE};
 use seal_record::Seal;
 use std::alloc::Global;
 use std::sync::ledger::Ledger;
-use store_commands::open_sealed;
+use store_commands::{open_sealed, read_sealed};
 use tariff_compile::{Tables, compile};
 use taxi_units::Steps;
 use totals_record::{Durable, Trip};

@@ -1,8 +1,8 @@
 -- Events, intervals and runs that are carried out, one behind the other.
 use Rattle.{std.specs.List.{flat_map}, outside.proofs.Laws.{rose_behind}, meter_run.specs.Drives.{IsBounded}}
 use Rattle.std.{specs.Prelude.{IsErrAnd}, proofs.Common.{length-append, refl, subst, suc, sym, take, true, zero}}
-use Rattle.std.proofs.Common.{[], ℕ, ◌++◌, ◌+◌, ◌<◌, ◌∙◌, ◌∷◌, ◌≡◌, ◌≢◌, ◌≤◌, Err, IfOk, IsErr, List, None, Ok, OnErr}
-use Rattle.std.proofs.Common.{OnOk, Option, Result, Some, add-one, ap, append_assoc, arith, drop, false, get_or, length}
+use Rattle.std.proofs.Common.{[], ℕ, ◌++◌, ◌+◌, ◌<◌, ◌∙◌, ◌∷◌, ◌≡◌, ◌≢◌, ◌≤◌, Err, IfOk, IsErr, List, Ok, OnErr, OnOk}
+use Rattle.std.proofs.Common.{Option, Result, Some, add-one, ap, append_assoc, arith, drop, false, get_or, length}
 use Rattle.std.proofs.lemmas.{Bool.{ne_eqb}, List.{append-nil, take-append-drop, Concat.{flat_map-append}}}
 use Rattle.meter_run.specs.Common.{Event, HasCause, Pulses, Run, Tick, interval_events, intervals_events, run_events}
 
@@ -47,13 +47,6 @@ went_wrong before mid now e (Err fault) wrong first cause =
       failed = λ err. rose_behind before mid now first
           (cause.failed refl);
     }
-
--- what is absent isn't there
-pub not_some : {A : Type 0} (o : Option A) (x : A) → o ≡ None → o ≡ Some x → ⊥
-not_some o x none some = by (sym none ∙ some)
-  where
-    by : None ≡ Some x → ⊥
-    by bad = absurd cc
 
 -- what is there is one thing
 pub same_stop : {A : Type 0} (o : Option A) (x y : A) → o ≡ Some x → o ≡ Some y → x ≡ y

@@ -30,8 +30,6 @@ mod OneCommit
 mod RunEnds
 -- what a scan of the pair of totals finds on a board that is settled
 mod SettledScans
--- how a source goes on and stops
-mod SourceSteps
 -- the supply behind events, and the steps of a drive with the supply drop at its end
 mod Supplies
 -- one event, and the supply drop at the end

@@ -1,12 +1,12 @@
 -- How a run ends, by what its drive came to.
 use Rattle.std.proofs.Common.{ℕ, ◌++◌, ◌∙◌, ◌≡◌, ◌≤◌, ◌⊎◌, Bool, Err, IsErr, List, Ok, Result, ap, false, inl, inr}
-use Rattle.{std.proofs.{Common.{length, subst, sym, true}, lemmas.List.{take_all}}, meter_run.specs.Texts.{shown_texts}}
-use Rattle.meter_run.specs.Common.{BadAt, Begins, Endless, Event, IsSettingOf, IsSplit, ReachesEnd, RunFault, Seal}
-use Rattle.meter_run.specs.Common.{Setting, StreamEnd, TableParts, Whole, actions_of, events_in, events_of, first_state}
-use Rattle.meter_run.specs.{Common.{stream_limit}, Drives.{RunsDrive, RunsTo, answer_of}, declared.source.Stop.{Stop}}
-use Rattle.meter_run.specs.Source.{EndsBy}
+use Rattle.std.proofs.{Common.{length, subst, sym, true}, lemmas.List.{take_all}}
+use Rattle.{drive_text.specs.Ending.{ReachesEnd}, meter_run.specs.{Common.{stream_limit}, Texts.{shown_texts}}}
+use Rattle.meter_run.specs.Common.{BadAt, Begins, Endless, EndsBy, Event, IsSettingOf, IsSplit, RunFault, Seal, Setting}
+use Rattle.meter_run.specs.Common.{Stop, StreamEnd, TableParts, Whole, actions_of, events_in, events_of, first_state}
+use Rattle.meter_run.specs.Drives.{RunsDrive, RunsTo, answer_of}
 use Rattle.meter_run.specs.declared.fault.RunFault.TheVariants as faults
-use Rattle.meter_run.specs.declared.source.Stop.TheVariants as stops
+use Rattle.drive_source.specs.declared.source.Stop.TheVariants as stops
 
 abbrev fails : RunFault → Result (Unit {0}) RunFault
 fails fault = Err fault

@@ -1,13 +1,12 @@
 -- The supply behind events: a meter is off without it, and the steps of a drive with the supply drop at its end.
 use Rattle.std.proofs.Common.{[], ℕ, ◌*◌, ◌+◌, ◌∙◌, ◌∷◌, ◌≡◌, ◌≢◌, ◌≤◌, Bool, List, None, ap, arith, false, inl, inr}
 use Rattle.std.proofs.{Common.{length, refl, subst, suc, sym, true, zero}, lemmas.Bool.{ne_eqb}}
-use Rattle.meter_run.specs.BetweenEvents.{StandsWith}
+use Rattle.meter_run.{specs.{BetweenEvents.{StandsWith}, OnStore.{IsMeterReadyOn}}, proofs.SupplyDrop.{begins, off_of}}
 use Rattle.meter_run.specs.Common.{Act, CachedCore, Clock, CoreData, Down, Durable, Event, ForHire, Ghosts, Hired}
 use Rattle.meter_run.specs.Common.{IsSettingOf, Key, Meets, Meter, Off, Operating, Outcome, Pulses, Seal, Setting}
-use Rattle.meter_run.specs.Common.{Stands, Stopped, StoreMeter, TableParts, Tick, Up, events_in, first_state}
+use Rattle.meter_run.specs.Common.{Stands, Stop, Stopped, StoreMeter, TableParts, Tick, Up, events_in, first_state}
 use Rattle.meter_run.specs.Common.{interval_events, intervals_events, opened, run, step, step_in}
 use Rattle.meter_run.specs.{Drives.{BreaksDrive, IsBoundedByDrive, TakesDrive}, Dry.{CarriesEvents, IsMeterReady}}
-use Rattle.meter_run.{specs.{OnStore.{IsMeterReadyOn}, declared.source.Stop.{Stop}}, proofs.SupplyDrop.{begins, off_of}}
 use Rattle.meter_run.specs.{Supply.{StaysOff, drop_steps, is_supplied, is_supplied_after}, SupplyLaws.{supplied_joined}}
 use Rattle.meter_run.{specs.declared.dry.DryMeter.{DryMeter}, proofs.EventOnStore.{refused_event, unknown_off}}
 

@@ -2,11 +2,11 @@
 use Rattle.std.proofs.Common.{[], ℕ, ◌++◌, ◌+◌, ◌<◌, ◌∙◌, ◌∷◌, ◌≡◌, ◌≤◌, Err, IfOk, IfSome, List, None, Ok, OnErr}
 use Rattle.std.proofs.Common.{Option, Result, Some, ap, append_assoc, arith, flat_map, length, length-append, refl}
 use Rattle.{std.proofs.{Common.{subst, sym}, lemmas.List.{append-nil}}, drive_text.proofs.Laws.{events_are_added}}
-use Rattle.meter_run.specs.Common.{Event, IsSplit, Run, events_in, run_events, runs_after, stream_limit}
+use Rattle.{drive_text.specs.Drive.{runs_after}, drive_source.specs.Source.{Fills, GivesRuns, Progress, StopsBy}}
+use Rattle.drive_source.specs.declared.source.Stop.TheVariants.{BadLine, ReadFault}
+use Rattle.meter_run.specs.Common.{EndsBy, Event, HasGiven, IsSplit, Run, Stop, events_in, run_events, stream_limit}
 use Rattle.meter_run.specs.Drives.{BreaksDrive, IsBounded, TakesDrive}
 use Rattle.meter_run.specs.Pieces.{AreCarried, CarriesAhead, CarriesPiece, IsThrough}
-use Rattle.meter_run.specs.{Source.{EndsBy, Fills, GivesRuns, HasGiven, Progress, StopsBy}, declared.source.Stop.{Stop}}
-use Rattle.meter_run.specs.declared.source.Stop.TheVariants.{BadLine, ReadFault}
 
 -- the runs of these bytes were given, and their events were carried out
 pub record IsSoFar (told : Type 0) (place : Progress) (drive rest : List ℕ) (done : List Event → Type 0)

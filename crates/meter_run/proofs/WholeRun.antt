@@ -2,25 +2,25 @@
 use Rattle.{std.specs.Option.{ForSome}, outside.proofs.Laws.{leaves_wider}, slot_store.specs.Slots.{slot_at}}
 use Rattle.std.proofs.Common.{[], ℕ, ◌++◌, ◌+◌, ◌∙◌, ◌∷◌, ◌≡◌, ◌≢◌, ◌≤◌, Err, IsOk, List, None, Ok, OnErr, OnOk, Option}
 use Rattle.std.proofs.Common.{Result, ap, drop, inl, inr, length, refl, subst, sym, take, ⊎_elim}
-use Rattle.{totals_record.proofs.Laws.{states_are_read_by_their_table}, tariff_check.specs.SoundTariff.{sound_of}}
-use Rattle.{tariff_compile.specs.Tables.{IsCompiled}, meter_model.specs.Run.{ended_in}, meter_run.specs.Runs.{RunsUpTo}}
+use Rattle.{drive_text.specs.Ending.{ReachesEnd}, totals_record.proofs.Laws.{states_are_read_by_their_table}}
+use Rattle.{tariff_check.specs.SoundTariff.{sound_of}, tariff_compile.specs.Tables.{IsCompiled}}
+use Rattle.{meter_model.specs.Run.{ended_in}, meter_run.specs.Common.{events_in, opened, run, step_in, stream_limit}}
 use Rattle.meter_states.proofs.Laws.{receipts_follow_their_entries-run, the_store_has_what_the_acts_commit-run}
-use Rattle.meter_run.specs.Common.{Act, BadAt, Down, Durable, Endless, Event, Fits, ForHire, Ghosts, Hired, HoldsState}
-use Rattle.meter_run.specs.Common.{IsDurable, IsLawful, IsSeal, IsSettingOf, IsSplit, Known, LeavesNow, LeavesOnly}
-use Rattle.meter_run.specs.Common.{Meter, Off, Operating, Outcome, Place, ReachesEnd, RunFault, Seal, Setting, Stopped}
-use Rattle.meter_run.specs.Common.{StoreMeter, StreamEnd, TableParts, Whole, actions_of, drive_end, ended, events_in}
-use Rattle.meter_run.specs.{Common.{opened, run, step_in, stream_limit}, OnStore.{StandsOn, StopsAmid, WritesTotals}}
+use Rattle.meter_run.specs.Common.{Act, BadAt, Down, Durable, Endless, EndsBy, Event, Fits, ForHire, Ghosts, Hired}
+use Rattle.meter_run.specs.Common.{HoldsState, IsDurable, IsLawful, IsSeal, IsSettingOf, IsSplit, Known, LeavesNow}
+use Rattle.meter_run.specs.Common.{LeavesOnly, Meter, Off, Operating, Outcome, Place, RunFault, Seal, Setting, Stop}
+use Rattle.meter_run.specs.Common.{Stopped, StoreMeter, StreamEnd, TableParts, Whole, actions_of, drive_end, ended}
 use Rattle.meter_run.{specs.Deeds.{Deed, after_deeds, changes_of, deeds_of, texts}, proofs.EventOnStore.{stands_opened}}
 use Rattle.meter_run.specs.{Drives.{BreaksDrive, TakesDrive, answer_of}, StoreLaws.{beside_then, has_settled, out_none}}
-use Rattle.meter_run.specs.InTurn.{CommitsInTurn}
+use Rattle.meter_run.specs.{InTurn.{CommitsInTurn}, OnStore.{StandsOn, StopsAmid, WritesTotals}, Runs.{RunsUpTo}}
 use Rattle.meter_run.specs.OnStore.{CarriesEvents, CarriesOut, Has, HasBeside, IsMeterReadyOn, IsSecured, Knows}
-use Rattle.meter_run.specs.{PointLaws.{deeds_joined, keeps_longer, keeps_next, text_next, turn_next}, Source.{EndsBy}}
-use Rattle.meter_run.{specs.Points.{GoesBy, IsCutOfDeeds, IsPointOfDeeds}, proofs.RunEnds.{events_taken}}
-use Rattle.meter_run.specs.{RunLaws.{after_deeds_of, after_is, run_durable}, declared.source.Stop.{Stop}}
+use Rattle.meter_run.specs.PointLaws.{deeds_joined, keeps_longer, keeps_next, text_next, turn_next}
+use Rattle.meter_run.specs.Points.{GoesBy, IsCutOfDeeds, IsPointOfDeeds}
+use Rattle.meter_run.{specs.RunLaws.{after_deeds_of, after_is, run_durable}, proofs.RunEnds.{events_taken}}
 use Rattle.meter_run.specs.Runs.{CutsLeave, EndsRun, FromOpening, HasDone, HasStopped, LeavesPoints, OpensWith}
 use Rattle.meter_run.proofs.{Cuts.{acts_have_entries, cut_of, deeds_follow}, SupplyDrop.{ended_on, off_of, on_of}}
 use Rattle.meter_run.specs.declared.fault.RunFault.TheVariants as faults
-use Rattle.meter_run.specs.declared.source.Stop.TheVariants as stops
+use Rattle.drive_source.specs.declared.source.Stop.TheVariants as stops
 
 -- ---- the supply drop at the end
 

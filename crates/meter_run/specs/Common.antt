@@ -5,12 +5,12 @@ pub use Rattle.taxi_units.specs.declared.event.Operating.{Operating, TheVariants
 pub use Rattle.outside.specs.{Disk.{MayLeaveAmid, SameBut}, Faults.{HasCause, MayRise, Rose}, Reading.{LeavesOthers}}
 pub use Rattle.{outside.specs.PrintedText.{Begins}, slot_store.specs.declared.pair.Place.{Place}}
 pub use Rattle.outside.specs.{Runs.{IsAtRest, KeepsStore, LeavesNow, LeavesOnly}, declared.printer.Printer.{Ghosts}}
-pub use Rattle.drive_text.specs.{Drive.{events_in, runs_after}, Reading.{HasTaken, Reading}, declared.run.Run.{Run}}
-pub use Rattle.drive_text.specs.Ending.{BadAt, Endless, IsGoing, IsSplit, ReachesEnd, StreamEnd, Whole, drive_end}
-pub use Rattle.drive_text.specs.{Ending.{events_of, stream_limit}, Runs.{interval_events, intervals_events, run_events}}
-pub use Rattle.{drive_text.specs.Ranges.{IsRunInRange}, totals_record.specs.declared.durable_state.Durable.{Durable}}
+pub use Rattle.{drive_text.specs.Drive.{events_in}, drive_source.specs.declared.source.Stop.{Stop}}
+pub use Rattle.drive_text.specs.Ending.{BadAt, Endless, IsSplit, StreamEnd, Whole, drive_end, events_of, stream_limit}
+pub use Rattle.drive_text.specs.{Runs.{interval_events, intervals_events, run_events}, declared.run.Run.{Run}}
+pub use Rattle.{drive_source.specs.Source.{EndsBy, HasGiven}, totals_record.specs.declared.change.Change.{Change}}
 pub use Rattle.totals_record.specs.{Ranges.{IsDurable}, Sums.{GrowsBy}, declared.entry.Entry.{Entry}}
-pub use Rattle.totals_record.specs.{States.{after, entries_of, first_state}, declared.change.Change.{Change}}
+pub use Rattle.totals_record.specs.{States.{after, entries_of, first_state}, declared.durable_state.Durable.{Durable}}
 pub use Rattle.{seal_record.specs.{Ranges.{IsSeal}, declared.seal.Seal.{Seal}}, meter_model.specs.Step.{step, step_in}}
 pub use Rattle.meter_store.specs.{Sealing.{HasSeal, HoldsSeal}, Stored.{HasState, HoldsState, state_number_of}}
 pub use Rattle.{tariff_compile.specs.Tables.{TableParts}, meter_model.specs.Run.{actions_of, ended, opened, run}}

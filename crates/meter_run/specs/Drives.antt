@@ -1,11 +1,11 @@
 -- Rules: a drive that is carried out from its first byte to its end.
 use Rattle.std.specs.Prelude.{ℕ, ◌*◌, ◌++◌, ◌+◌, ◌≡◌, ◌≤◌, Err, List, Ok, Result, length}
-use Rattle.{taxi_units.specs.Streams.{StopsAfter}, drive_text.specs.Ending.{TellsEnd}}
-use Rattle.meter_run.specs.Common.{BadAt, Begins, Endless, Event, IsGoing, IsSettingOf, IsSplit, RunFault, Seal}
-use Rattle.meter_run.specs.Common.{Setting, StreamEnd, TableParts, Whole, drive_end, events_in, stream_limit}
-use Rattle.meter_run.specs.{Source.{EndsBy}, Supply.{drop_steps}, Texts.{drive_shown}, declared.source.Stop.{Stop}}
+use Rattle.{taxi_units.specs.Streams.{StopsAfter}, drive_text.specs.Ending.{IsGoing, TellsEnd}}
+use Rattle.meter_run.specs.Common.{BadAt, Begins, Endless, EndsBy, Event, IsSettingOf, IsSplit, RunFault, Seal, Setting}
+use Rattle.meter_run.specs.Common.{Stop, StreamEnd, TableParts, Whole, drive_end, events_in, stream_limit}
+use Rattle.meter_run.specs.{Supply.{drop_steps}, Texts.{drive_shown}}
 use Rattle.meter_run.specs.declared.fault.RunFault.TheVariants.{BadDrive, BoardFault, ReadFault, TooLong}
-use Rattle.meter_run.specs.declared.source.Stop.TheVariants as stops
+use Rattle.drive_source.specs.declared.source.Stop.TheVariants as stops
 
 -- the steps of events are bounded if the count of steps rose from `before` to `now` by at most 64 for each event
 abbrev pub IsBounded : (before now : ℕ) → List Event → Type 0

@@ -13,7 +13,6 @@ pub mod Points
 pub mod PrintedText
 pub mod RunLaws
 pub mod Runs
-pub mod Source
 pub mod StoreLaws
 pub mod Supply
 pub mod SupplyLaws

@@ -1,6 +1,7 @@
 -- Rules: a drive that is carried out piece by piece, so that no event waits for bytes behind those of its line.
 use Rattle.std.specs.Prelude.{[], ℕ, ◌++◌, ◌<◌, ◌≡◌, ◌≤◌, List, length}
-use Rattle.meter_run.specs.{Common.{Event, events_in}, Drives.{IsBounded}, Source.{HasGiven, Progress}}
+use Rattle.{drive_source.specs.Source.{Progress}, meter_run.specs.Common.{Event, HasGiven, events_in}}
+use Rattle.meter_run.specs.Drives.{IsBounded}
 
 -- a source is through with bytes of a drive if it has given them, and of what was taken nothing is ahead of it
 pub record IsThrough (place : Progress) (taken : List ℕ) : Type 0 where

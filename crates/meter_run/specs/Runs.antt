@@ -1,10 +1,10 @@
 -- Rules: a run on the store, what it does, how it ends, and what a cut of the power leaves of it.
 use Rattle.std.specs.{Option.{ForSome}, Prelude.{ℕ, ◌++◌, ◌≡◌, Err, List, Ok, Result}}
-use Rattle.{taxi_units.specs.Streams.{StopsAfter}, drive_text.specs.Ending.{TellsEnd}}
-use Rattle.meter_run.specs.Common.{BadAt, Durable, Endless, Fits, Ghosts, GrowsBy, HoldsState, IsGoing, IsSettingOf}
-use Rattle.meter_run.specs.Common.{IsSplit, LeavesOnly, Place, RunFault, Seal, Setting, StreamEnd, TableParts, Whole}
-use Rattle.meter_run.specs.{Common.{actions_of, drive_end, events_of}, OnStore.{HasBeside}, Points.{IsCutOfDeeds}}
-use Rattle.meter_run.specs.{Deeds.{Deed, after_deeds, changes_of, deeds_of, texts}, InTurn.{CommitsInTurn}}
+use Rattle.{taxi_units.specs.Streams.{StopsAfter}, drive_text.specs.Ending.{IsGoing, TellsEnd}}
+use Rattle.meter_run.specs.Common.{BadAt, Durable, Endless, Fits, Ghosts, GrowsBy, HoldsState, IsSettingOf, IsSplit}
+use Rattle.meter_run.specs.Common.{LeavesOnly, Place, RunFault, Seal, Setting, StreamEnd, TableParts, Whole, actions_of}
+use Rattle.meter_run.specs.{Common.{drive_end, events_of}, Deeds.{Deed, after_deeds, changes_of, deeds_of, texts}}
+use Rattle.meter_run.specs.{InTurn.{CommitsInTurn}, OnStore.{HasBeside}, Points.{IsCutOfDeeds}}
 use Rattle.meter_run.specs.declared.fault.RunFault.TheVariants.{BadDrive, BoardFault, ReadFault, TooLong}
 
 -- the deeds of a run over bytes of a drive, if the store opens with a durable state, are the acts of the events, and

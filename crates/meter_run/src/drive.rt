@@ -1,13 +1,13 @@
 //! Carries out a drive, until no more of it is read.
 ghost use Rattle.std.specs.Prelude.{ℕ, ◌++◌, ◌<◌, ◌≡◌, ◌≢◌, ◌⊎◌, IfOk, IfSome, IsErr, List, None, Ok, OnErr, OnOk};
 ghost use Rattle.{std.specs.Prelude.{Some, length}, meter_run.specs.Drives.{BreaksDrive, TakesDrive}};
-ghost use Rattle.meter_run.specs.Common.{HasCause, LeavesOthers, MayRise, Rose, events_in};
-ghost use Rattle.meter_run.specs.{Pieces.{AreCarried, CarriesAhead, CarriesPiece, IsThrough}, Source.{HasGiven}};
+ghost use Rattle.meter_run.specs.Common.{HasCause, HasGiven, LeavesOthers, MayRise, Rose, events_in};
+ghost use Rattle.meter_run.specs.Pieces.{AreCarried, CarriesAhead, CarriesPiece, IsThrough};
 
 use crate::carrier::{Carrier, SealedTables};
 use crate::runs::carry_runs;
-use crate::source::{Source, Stop};
 use arrayvec::ArrayVec;
+use drive_source::{Source, Stop};
 use drive_text::Run;
 use meter_model::Acts;
 use outside::{Failed, Files, Printer, STORE_SIZE};

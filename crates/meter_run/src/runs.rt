@@ -1,6 +1,6 @@
 //! Carries out the runs of a drive.
-ghost use Rattle.{std.specs.{List.{flat_map}, Prelude.{All, OnErr, OnOk}}, meter_run.specs.Drives.{IsBounded}};
-ghost use Rattle.meter_run.specs.Common.{HasCause, IsRunInRange, interval_events, intervals_events, run_events};
+ghost use Rattle.{std.specs.{List.{flat_map}, Prelude.{All, OnErr, OnOk}}, drive_text.specs.Ranges.{IsRunInRange}};
+ghost use Rattle.meter_run.specs.{Common.{HasCause, interval_events, intervals_events, run_events}, Drives.{IsBounded}};
 
 use crate::carrier::{Carrier, SealedTables};
 use drive_text::Run;

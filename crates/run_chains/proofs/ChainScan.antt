@@ -1,11 +1,11 @@
 -- What is found of an image that stands for a durable state and a seal.
 use Rattle.std.{specs.Prelude.{is_some}, proofs.Common.{ℕ, ◌∙◌, ◌≡◌, Err, List, Ok, Result, ap, refl, subst, sym, true}}
 use Rattle.{std.proofs.lemmas.Bool.{false≢true}, slot_store.specs.declared.found.SlotFault.TheVariants.{DeviceFailed}}
-use Rattle.{slot_store.specs.Scan.{IsAnswer}, store_commands.specs.declared.opening.StoreFault.{StoreFault}}
-use Rattle.slot_store.specs.declared.found.{Found.{Found, TheVariants.{Blank, Latest}}, SlotFault.{SlotFault}}
-use Rattle.slot_store.{specs.declared.pair.Place.{Place}, proofs.Laws.{answer_is, at_stands, body_found}}
-use Rattle.store_commands.specs.{Opening.{opening_by, sealed_store}, declared.opening.Opening.{Opening}}
-use Rattle.run_chains.specs.{Chain.{IsSealedStore}, Common.{Durable, HasSeal, Seal, found_at, opening_in}}
+use Rattle.slot_store.specs.{Scan.{IsAnswer}, declared.{found.Found.TheVariants.{Blank, Latest}, pair.Place.{Place}}}
+use Rattle.{slot_store.proofs.Laws.{answer_is, at_stands, body_found}, run_chains.specs.Chain.{IsSealedStore}}
+use Rattle.store_commands.specs.{Opening.{opening_by, sealed_store}, declared.opening.StoreFault.{StoreFault}}
+use Rattle.store_commands.specs.declared.opening.Opening.{Opening}
+use Rattle.run_chains.specs.Common.{Durable, Found, HasSeal, Seal, SlotFault, found_at, opening_in}
 use Rattle.totals_record.specs.Reading as totals
 use Rattle.meter_store.specs.Stored as states
 use Rattle.seal_record.specs.Decoding as seals

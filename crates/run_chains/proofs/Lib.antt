@@ -8,6 +8,8 @@ mod ChainReceipts
 mod ChainScan
 -- sums over the prefixes of a chain
 mod ChainSums
+-- a run on a new store prints the receipts that are explained
+mod NewStores
 -- runs from starts that are alike
 mod SameStarts
 -- what acts that are alike print, enter and leave

@@ -2,23 +2,23 @@
 use Rattle.{std.specs.{Cmp.Lexicographic.{pointwise}, Prelude.{is_ok, nat_eq}}, sha2.specs.Sha256.{sha256}}
 use Rattle.std.proofs.Common.{ℕ, ◌+◌, ◌∙◌, ◌≡◌, Bool, Err, List, None, Ok, Option, Result, Some, ap, drop, false}
 use Rattle.std.proofs.{Common.{if◌then◌else◌, length, nat_lt, refl, subst, sym, take, true}, lemmas.Bool.{false≢true}}
-use Rattle.{slot_bodies.specs.Bodies.{body_size}, slot_store.specs.declared.found.SlotFault.{SlotFault}}
-use Rattle.slot_store.{specs.{Scan.{IsAnswer}, Slots.{slot_at}, declared.found.Found.{Found}}, proofs.Laws.{answer_is}}
-use Rattle.{drive_text.specs.Ending.{drive_end, events_of}, totals_record.specs.declared.trip.Trip.{Trip}}
+use Rattle.{slot_bodies.specs.Bodies.{body_size}, slot_store.{specs.Scan.{IsAnswer}, proofs.Laws.{answer_is}}}
+use Rattle.{slot_store.specs.Slots.{slot_at}, totals_record.specs.declared.trip.Trip.{Trip}}
 use Rattle.seal_record.{specs.Ranges.{IsSeal}, proofs.Laws.{seals_are_read_by_their_table}}
 use Rattle.{tariff_tree.specs.Tree.{Tree}, tariff_syntax.specs.Parsed.{tree_parsed}, meter_model.specs.Run.{whole_run}}
 use Rattle.tariff_syntax.proofs.Laws.{texts_are_parsed_as_they_read-tariff, texts_have_their_numbers}
 use Rattle.tariff_check.specs.{Faults.{fault_of}, declared.fault.CheckFault.{CheckFault}}
 use Rattle.tariff_check.{specs.SoundTariff.{sound_of}, proofs.Laws.{sound_tariffs_have_sound_parts-none}}
-use Rattle.{meter_model.specs.{Setting.{Setting}, declared.act.Act.{Act}}, same_tariffs.specs.Same.{AreSameSettings}}
 use Rattle.{meter_states.proofs.Laws.{the_store_has_what_the_acts_commit-run}, same_tariffs.specs.Reached.{HoldGoesOn}}
 use Rattle.same_tariffs.specs.{Alike.{AreHoldsAlike, AreOutcomesAlike, AreStoresAlike}, Contexts.{IsSettingInRange}}
+use Rattle.{same_tariffs.specs.Same.{AreSameSettings}, meter_run.specs.RunLaws.{after_deeds_of, after_is}}
 use Rattle.same_tariffs.proofs.Laws.{events_of_drives_are_timely, same_tariffs_run_alike-goes_on}
 use Rattle.same_tariffs.proofs.Laws.{same_tariffs_run_alike-outcomes, same_tariffs_run_alike-stores}
-use Rattle.{meter_run.specs.RunLaws.{after_deeds_of, after_is}, call_ends.specs.declared.tariff.Refusal.{Refusal}}
 use Rattle.call_ends.specs.{Tariffs.{checked_in, sound_in, tariff_in}, declared.tariff.Refusal.TheVariants.{TooLong}}
-use Rattle.drive_commands.{specs.{Fare.{drive_answer}, Run.{accepted, run_answer, setting_in}}, proofs.Laws.{found_in}}
-use Rattle.run_chains.specs.Common.{Durable, Ended, Seal, Start, after_deeds, deeds_in, found_at, opening_in, start_of}
+use Rattle.{call_ends.specs.declared.tariff.Refusal.{Refusal}, store_commands.specs.SealedTariff.{accepted}}
+use Rattle.{drive_commands.proofs.Laws.{found_in}, run_chains.specs.Common.{start_of}}
+use Rattle.run_chains.specs.Common.{Act, Durable, Ended, Found, Seal, Setting, SlotFault, Start, after_deeds, deeds_in}
+use Rattle.run_chains.specs.Common.{drive_answer, drive_end, events_of, found_at, opening_in, run_answer, setting_in}
 use Rattle.run_chains.specs.SameRuns.{AreSameStarts, AreStartsAlike, DoTheSame, GoBySame, start_after}
 use Rattle.run_chains.proofs.SameTexts.{alike-entries, alike-texts}
 use Rattle.seal_record.specs.Decoding as seals

@@ -1,10 +1,10 @@
 -- What acts that are alike print, enter and leave.
 use Rattle.std.proofs.Common.{[], ℕ, ◌++◌, ◌∙◌, ◌∷◌, ◌≡◌, List, ap, refl, sym}
 use Rattle.{totals_record.specs.declared.entry.Entry.{Entry}, same_tariffs.specs.Alike.{AreActsAlike, IsActAlike}}
-use Rattle.meter_model.specs.{Setting.{Setting}, declared.act.Act.{Act, TheVariants.{Enter, Hold, Refuse, Show}}}
+use Rattle.{meter_model.specs.declared.act.Act.TheVariants.{Enter, Hold, Refuse, Show}, run_chains.specs.Common.{texts}}
 use Rattle.receipt_text.{specs.SealParts.{part_of_seal}, proofs.Laws.{differ_in_tariff}}
-use Rattle.{meter_run.specs.Deeds.{act_text, deeds_of}, run_chains.specs.SameRuns.{IsTextAlike}}
-use Rattle.run_chains.specs.Common.{Deed, Does, Prints, Receipt, Seal, changes_of, entries_of, texts}
+use Rattle.{meter_run.specs.Deeds.{act_text}, run_chains.specs.SameRuns.{IsTextAlike}}
+use Rattle.run_chains.specs.Common.{Act, Deed, Does, Prints, Receipt, Seal, Setting, changes_of, deeds_of, entries_of}
 
 -- an act prints what one that is alike does
 alike-text : (s t : Setting) (seal : Seal) (x y : Act) → IsActAlike s t x y → act_text seal y ≡ act_text seal x

@@ -2,6 +2,7 @@
 pub mod Chain
 pub mod Link
 pub mod MemoryRuns
+pub mod NewStore
 pub mod SameRuns
 -- For proofs
 pub mod ChainSteps

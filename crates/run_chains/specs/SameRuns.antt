@@ -1,10 +1,10 @@
 -- Rules: the starts of two runs that are the same but for the digest of the seal and the tariff.
 use Rattle.std.specs.Prelude.{ℕ, ◌≡◌, List, None, Result}
-use Rattle.{drive_text.specs.Ending.{drive_end}, tariff_compare.specs.Same.{AreSame}, meter_run.specs.Deeds.{deed_text}}
-use Rattle.{same_tariffs.specs.{Alike.{AreStoresAlike}, Reached.{HoldGoesOn}}, drive_commands.specs.Fare.{drive_answer}}
+use Rattle.{tariff_compare.specs.Same.{AreSame}, same_tariffs.specs.{Alike.{AreStoresAlike}, Reached.{HoldGoesOn}}}
 use Rattle.receipt_text.specs.{Receipts.{receipt_text}, SealParts.{part_of_seal}, TariffLine.{DifferInTariff}}
-use Rattle.{drive_commands.specs.Run.{run_answer, setting_in}, run_chains.specs.Common.{entries_of, texts}}
+use Rattle.meter_run.specs.Deeds.{deed_text}
 use Rattle.run_chains.specs.Common.{Deed, Does, Ended, Receipt, Seal, Start, after_deeds, changes_of, deeds_in}
+use Rattle.run_chains.specs.Common.{drive_answer, drive_end, entries_of, run_answer, setting_in, texts}
 
 -- two starts go by the same if their seals are equal but for the digest, and their tariffs are the same under the
 -- sealed constant

@@ -20,6 +20,8 @@ mod ReadOnlyCalls
 mod SealLines
 -- the text of what a store was sealed with is read as the parameters of its seal
 mod SealedLaws
+-- which text is the sealed tariff, and why another has no tables
+mod SealedTariffs
 -- the text of what a store was sealed with, part by part
 mod SealedTexts
 -- what the command `seal` answers
@@ -32,3 +34,5 @@ mod ShiftReports
 mod StoreTexts
 -- the files of two words that are read one behind the other
 mod Turns
+-- what a part of a command read of a word, whatever it gives of it
+mod WordsRead

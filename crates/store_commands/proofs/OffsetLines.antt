@@ -4,9 +4,9 @@ use Rattle.std.proofs.Common.{drop, get_or, inl, length, refl, subst, sym, take,
 use Rattle.std.proofs.lemmas.{Grind.{flat_map-append}, List.{append-nil, take-append-drop, take_all, take_more}}
 use Rattle.{outside.specs.declared.files.Files.{Ghosts as FileGhosts}, offset_rules.specs.Pairs.{pairs_of}}
 use Rattle.{outside.proofs.Laws.{begins_after, begins_more, begins_whole}, offset_rules.specs.Reading.{rules_read}}
-use Rattle.{offset_rules.specs.Texts.{offset_line, offset_lines}, call_ends.specs.Reads.{ReadsWord}}
+use Rattle.offset_rules.specs.Texts.{offset_line, offset_lines}
 use Rattle.call_ends.proofs.Laws.{MakesText, goes-none, goes-on, makes-answer, makes-stopped, no_fault}
-use Rattle.store_commands.specs.Common.{Begins, Makes, Rule, RuleFault, RulesFault, shows}
+use Rattle.store_commands.specs.Common.{Begins, Makes, ReadsWord, Rule, RuleFault, RulesFault, shows}
 use Rattle.store_commands.specs.{Offsets.{offsets_answer, offsets_command}, StoreEnds.{ended_for_rules}}
 use Rattle.call_ends.specs.declared.ending.Ended.TheVariants as ended
 use Rattle.store_commands.specs.declared.offsets.RulesFault.TheVariants as faults

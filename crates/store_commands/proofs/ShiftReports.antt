@@ -1,10 +1,10 @@
 -- The report of a book beside a sealed store.
 use Rattle.std.proofs.Common.{[], ℕ, ◌∙◌, ◌≡◌, ◌≢◌, ◌⊎◌, Err, List, Ok, Result, ap, arith, inl, inr, refl, subst, sym}
 use Rattle.{std.proofs.Common.{true}, outside.specs.declared.files.Files.{Ghosts as FileGhosts}}
-use Rattle.{shift_book.specs.declared.book.BookFault.{BookFault}, call_ends.specs.declared.made.Made.{Made}}
-use Rattle.call_ends.specs.{Making.{IsMade, answer_with, is_plain}, Reads.{GoesTo, ReadsWord}}
-use Rattle.call_ends.proofs.Laws.{goes-none, goes-on, makes-known, makes-lacking, makes-stopped}
-use Rattle.store_commands.specs.Common.{Durable, Ended, Makes, Seal, book_read, end_made, status_of, text_made}
+use Rattle.{shift_book.specs.declared.book.BookFault.{BookFault}, store_commands.specs.Common.{text_made}}
+use Rattle.call_ends.specs.{Making.{IsMade, answer_with, is_plain}, declared.made.Made.{Made}}
+use Rattle.call_ends.{specs.Reads.{GoesTo}, proofs.Laws.{goes-none, goes-on, makes-known, makes-lacking, makes-stopped}}
+use Rattle.store_commands.specs.Common.{Durable, Ended, Makes, ReadsWord, Seal, book_read, end_made, status_of}
 use Rattle.store_commands.specs.{Opened.{also_told}, Shifts.{ended_for_book, reported, shifts_answer, shifts_command}}
 use Rattle.store_commands.{specs.Opening.{IsSealedIn, opening_in, store_of}, proofs.StoreTexts.{LooksAtSealed}}
 use Rattle.shift_book.specs.declared.book.BookFault.TheVariants as books

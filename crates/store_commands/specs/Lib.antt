@@ -6,6 +6,7 @@ pub mod Port
 pub mod Seal
 pub mod SealOfTexts
 pub mod Sealed
+pub mod SealedTariff
 pub mod SealedText
 pub mod Shifts
 pub mod Totals
@@ -16,4 +17,5 @@ pub mod Opened
 pub mod ReadInTurn
 pub mod SealSteps
 pub mod StoreEnds
+pub mod TariffSteps
 pub mod Common

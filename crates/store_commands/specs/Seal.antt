@@ -3,11 +3,11 @@ use Rattle.std.specs.Prelude.{[], ℕ, ◌++◌, ◌+◌, ◌<◌, ◌==◌, ◌
 use Rattle.std.specs.Prelude.{if◌then◌else◌, is_some, take}
 use Rattle.{sha2.specs.Sha256.{sha256}, outside.specs.Disk.{IsWithin, SameBut}, slot_store.specs.Sizes.{pair_size}}
 use Rattle.{seal_record.specs.Reading.{params_read}, meter_store.specs.Sealing.{IsAmid, IsSealed, seals_at}}
-use Rattle.call_ends.specs.{Answer.{shows_line}, declared.ending.Ended.TheVariants.{BadTariff, SealEnded, TripHeld}}
-use Rattle.store_commands.specs.Common.{Answer, BadParams, Base, Blank, Command, Durable, Ended, Found, Ghosts, Latest}
-use Rattle.store_commands.specs.Common.{LeavesFromSync, Opening, OtherDecimals, ParamFault, Params, Refusal, Seal}
-use Rattle.store_commands.specs.Common.{Sealing, StoreFault, Tree, found_number, last_seal_number, next_number}
-use Rattle.store_commands.specs.Common.{old_seal, refused_as, sealed_line, tariff_in}
+use Rattle.call_ends.specs.{Answer.{shows_line}, declared.ending.Ended.TheVariants.{SealEnded, TripHeld}}
+use Rattle.store_commands.specs.Common.{Answer, BadParams, BadTariff, Base, Blank, Command, Durable, Ended, Found}
+use Rattle.store_commands.specs.Common.{Ghosts, Latest, LeavesFromSync, Opening, OtherDecimals, ParamFault, Params}
+use Rattle.store_commands.specs.Common.{Refusal, Seal, Sealing, StoreFault, Tree, found_number, last_seal_number}
+use Rattle.store_commands.specs.Common.{next_number, old_seal, refused_as, sealed_line, tariff_in}
 use Rattle.store_commands.specs.Opening.{opening_in, store_ended}
 
 -- ---- what is sealed over

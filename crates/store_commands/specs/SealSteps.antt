@@ -1,9 +1,8 @@
 -- For proofs: what the command `seal` has before its last line is printed. Seal says what a sealing is.
 use Rattle.std.specs.Prelude.{ℕ, ◌≡◌, ◌≢◌, ◌⊎◌, Err, List, Ok, Option, Result}
-use Rattle.outside.specs.declared.files.Files.{Ghosts as FileGhosts}
-use Rattle.call_ends.specs.declared.ending.Ended.TheVariants.{BadTariff, BoardFault, NoMemory}
-use Rattle.store_commands.specs.Common.{BadParams, Begins, Ended, Ghosts, MayHold, OtherDecimals, ReadFault, Sealing}
-use Rattle.store_commands.specs.{Common.{Tree, line_of, status_of, tariff_in}, Opening.{opening_in}}
+use Rattle.{outside.specs.declared.files.Files.{Ghosts as FileGhosts}, store_commands.specs.Opening.{opening_in}}
+use Rattle.store_commands.specs.Common.{BadParams, BadTariff, Begins, BoardFault, Ended, Ghosts, MayHold, NoMemory}
+use Rattle.store_commands.specs.Common.{OtherDecimals, ReadFault, Sealing, Tree, line_of, status_of, tariff_in}
 use Rattle.store_commands.specs.Seal.{HasDecimals, MayLeaveSealing, Seals, are_decimals, seal_read, sealing_of}
 
 -- a text has a tariff with decimals if its tariff is sound and has them, and they are those that were found, if any

@@ -1,8 +1,7 @@
 -- For proofs: how a command ends by requests, parameters or rules that it couldn't read.
 use Rattle.{std.specs.Prelude.{Err, Ok, Result}, data_port.specs.declared.serving.PortFault.{PortFault}}
-use Rattle.call_ends.specs.declared.ending.Ended.TheVariants.{BadFrame, BadRules, BoardFault, Done, EndlessRequests}
-use Rattle.call_ends.specs.declared.ending.Ended.TheVariants.{NoMemory}
-use Rattle.store_commands.specs.Common.{BadParams, Ended, ReadFault, RulesFault}
+use Rattle.call_ends.specs.declared.ending.Ended.TheVariants.{BadFrame, BadRules, Done, EndlessRequests}
+use Rattle.store_commands.specs.Common.{BadParams, BoardFault, Ended, NoMemory, ReadFault, RulesFault}
 use Rattle.store_commands.specs.declared.params.ParamsFault.{ParamsFault}
 use Rattle.store_commands.specs.declared.offsets.RulesFault.TheVariants as rules
 use Rattle.store_commands.specs.declared.params.ParamsFault.TheVariants as params

@@ -9,5 +9,4 @@ pub mod Tables
 pub mod CompareSteps
 pub mod FaultsSteps
 pub mod FormSteps
-pub mod TableSteps
 pub mod Common

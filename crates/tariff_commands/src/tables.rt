@@ -6,7 +6,6 @@ ghost use Rattle.{taxi_units.specs.Line.{line_size}, outside.specs.{Faults.{HasC
 ghost use Rattle.outside.specs.Runs.{KeepsStore};
 ghost use Rattle.tariff_commands.specs.{Common.{Carries, row_count, row_text, rows_text}, Tables.{tables_command}};
 
-use crate::compiled::tables_of_word;
 use call_ends::{Ended, ended_behind, refused_by};
 use drive_modes::Constant;
 use outside::{Failed, Files, Printer, STORE_SIZE};
@@ -14,6 +13,7 @@ use std::alloc::Global;
 use std::sync::ledger::Ledger;
 use tariff_compile::Tables;
 use taxi_units::{Line, Steps};
+use word_tables::tables_of_word;
 
 /// Prints all rows of the tables of word 1's tariff under a constant.
 pub fn print_tables<F: Files, B: Printer<STORE_SIZE, L>, L: Ledger>(

@@ -1,10 +1,10 @@
 use Rattle.std.proofs.Common.{[], ℕ, ◌∙◌, ◌≡◌, ◌≢◌, Err, List, ap, arith, inl, inr, refl, rules, sym, ⊎_elim}
-use Rattle.{outside.proofs.Laws.{keeps_none}, meter_model.specs.Setting.{IsSealOf}, call_ends.proofs.Laws.{unless_read}}
-use Rattle.{meter_states.specs.Setting.{IsTariffOf}, drive_commands.proofs.TariffDrives.{shows_nothing}}
+use Rattle.{outside.proofs.Laws.{keeps_none}, drive_text.specs.Ending.{IsSplit}, meter_model.specs.Setting.{IsSealOf}}
+use Rattle.{drive_source.proofs.Laws.{begins_going}, meter_states.specs.Setting.{IsTariffOf}}
+use Rattle.{call_ends.{specs.Ending.{ended_for}, proofs.Laws.{unless_read}}, drive_commands.specs.DriveEnds.{ended_by}}
 use Rattle.call_ends.proofs.Laws.{carries-kept, course-refused, course-unprinted, no_fault, read_fault-text, stops_by}
-use Rattle.drive_commands.specs.{Common.{IsSettingOf, IsSplit, TableParts, ended_for, tariff_in}, DriveEnds.{ended_by}}
-use Rattle.drive_commands.specs.Fare.{fare_command, setting_of}
-use Rattle.drive_commands.proofs.TariffDrives.{begins_going, board_fault-ran, course-ran, read_fault-ran, refused-fare}
+use Rattle.drive_commands.specs.{Common.{IsSettingOf, TableParts, tariff_in}, Fare.{fare_command, setting_of}}
+use Rattle.drive_commands.proofs.TariffDrives.{board_fault-ran, course-ran, read_fault-ran, refused-fare, shows_nothing}
 use Rattle.call_ends.specs.declared.tariff.TextFault.TheVariants as texts
 use Rattle.drive_commands.proofs.fare.fare.Goals as goal
 

@@ -1,7 +1,7 @@
 use Rattle.{std.{specs.Prelude.{is_err}, proofs.Common.{ap, arith, refl}}, slot_store.proofs.Laws.{at_stands}}
-use Rattle.{call_ends.proofs.Laws.{no_fault, not_some}, drive_commands.specs.Common.{HasState, OpensWith, first_state}}
-use Rattle.drive_commands.specs.Generate.{state_after}
-use Rattle.drive_commands.proofs.{GenDrive.{not_failed, whole_bound}, TariffDrives.{left-whole}}
+use Rattle.{totals_record.specs.States.{first_state}, call_ends.proofs.Laws.{no_fault, not_some}}
+use Rattle.drive_commands.{specs.Common.{HasState, OpensWith}, proofs.GenDrive.{not_failed, whole_bound}}
+use Rattle.drive_commands.{specs.Generate.{state_after}, proofs.TariffDrives.{left-whole}}
 use Rattle.totals_record.specs.Reading as totals
 use Rattle.meter_store.specs.Stored as states
 use Rattle.drive_commands.proofs.generate.run_afresh.Goals as goal

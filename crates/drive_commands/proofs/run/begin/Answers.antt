@@ -1,7 +1,7 @@
 use Rattle.std.proofs.{Common.{◌∙◌, ◌≡◌, ap, false, refl, sym, true}, lemmas.Result.{err_from_is_err_and}}
-use Rattle.{call_ends.proofs.Laws.{ends_apart, refusal_by, same_fault}, drive_commands.specs.Common.{Rose, TableParts}}
-use Rattle.drive_commands.specs.Run.{does_hold_fit}
-use Rattle.drive_commands.proofs.{RunStarts.{not_begun-tables, start_fitted, start_from}, WordsRead.{reads-behind}}
+use Rattle.{call_ends.proofs.Laws.{ends_apart, refusal_by, same_fault}, store_commands.proofs.Laws.{reads-behind}}
+use Rattle.drive_commands.specs.Common.{Rose, TableParts}
+use Rattle.drive_commands.{specs.Run.{does_hold_fit}, proofs.RunStarts.{not_begun-tables, start_fitted, start_from}}
 use Rattle.call_ends.specs.declared.ending.Ended.TheVariants as ended
 use Rattle.drive_commands.proofs.run.begin.Goals as goal
 

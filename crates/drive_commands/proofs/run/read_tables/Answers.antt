@@ -1,6 +1,6 @@
-use Rattle.std.proofs.{Common.{ap, refl}, lemmas.Result.{err_from_is_err_and}}
-use Rattle.call_ends.proofs.Laws.{ends_apart, no_fault, same_fault}
-use Rattle.drive_commands.{specs.Common.{TableParts, tree_of}, proofs.WordsRead.{reads-behind, reads-err}}
+use Rattle.{std.proofs.{Common.{ap, refl}, lemmas.Result.{err_from_is_err_and}}, tariff_tree.specs.Tree.{tree_of}}
+use Rattle.{call_ends.proofs.Laws.{ends_apart, no_fault, same_fault}, drive_commands.specs.Common.{TableParts}}
+use Rattle.store_commands.proofs.Laws.{reads-behind, reads-err}
 use Rattle.call_ends.specs.declared.ending.Ended.TheVariants as ended
 use Rattle.drive_commands.proofs.run.read_tables.Goals as goal
 

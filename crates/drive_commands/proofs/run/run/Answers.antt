@@ -1,11 +1,11 @@
-use Rattle.{std.specs.Prelude.{IsErrOf}, meter_run.{specs.Runs.{EndsRun}, proofs.Laws.{keeps_read}}}
+use Rattle.{std.specs.Prelude.{IsErrOf}, drive_source.proofs.Laws.{begins_going}, meter_run.proofs.Laws.{keeps_read}}
 use Rattle.std.proofs.Common.{[], ℕ, ◌∙◌, ◌≡◌, ◌≢◌, Err, List, Result, ap, arith, inl, inr, refl, subst, sym, ⊎_elim}
+use Rattle.{meter_run.specs.Runs.{EndsRun}, drive_commands.proofs.TariffDrives.{board_fault-ran, read_fault-ran}}
 use Rattle.call_ends.proofs.Laws.{as_found, as_refused, goes-all, goes-none, no_fault, same_fault, stops-with}
 use Rattle.drive_commands.specs.Common.{Durable, Ended, IsSettingOf, IsTablesOf, OpensWith, Seal, TableParts, status_of}
 use Rattle.drive_commands.{specs.DriveEnds.{ended_by}, proofs.RunEnds.{ran-comes, ran-writes}}
 use Rattle.drive_commands.specs.{Run.{Start, run_command, setting_in, start_over, tables_in}, RunSteps.{RunReachesLine}}
 use Rattle.drive_commands.proofs.{RunAnswers.{carries-stopped, course-barred, course-not_begun}, RunStarts.{start_from}}
-use Rattle.drive_commands.proofs.TariffDrives.{begins_going, board_fault-ran, read_fault-ran}
 use Rattle.call_ends.specs.declared.ending.Ended.TheVariants as ended
 use Rattle.drive_commands.proofs.run.run.Goals as goal
 

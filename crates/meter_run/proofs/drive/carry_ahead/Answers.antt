@@ -1,7 +1,7 @@
 use Rattle.std.proofs.Common.{[], ◌++◌, ◌∙◌, All, List, Some, ap, flat_map, rules, subst, sym}
-use Rattle.meter_run.specs.{Common.{IsRunInRange, Run, run_events}, Drives.{IsBounded}}
+use Rattle.{drive_text.specs.Ranges.{IsRunInRange}, meter_run.{specs.Drives.{IsBounded}, proofs.RunEnds.{not_told}}}
+use Rattle.meter_run.{specs.Common.{Run, run_events}, proofs.WholeDrive.{way_more, way_none, way_stops, way_through}}
 use Rattle.meter_run.proofs.EventLists.{counts_more, no_more, not_ok, not_this, on_err, true_is, went_well, went_wrong}
-use Rattle.meter_run.proofs.{RunEnds.{not_told}, WholeDrive.{way_more, way_none, way_stops, way_through}}
 use Rattle.meter_run.proofs.WholeDrive.{answer_of_call, none_not_some, smaller, some_ahead, some_not_none, way_breaks}
 use Rattle.meter_run.proofs.drive.carry_ahead.Goals as goal
 

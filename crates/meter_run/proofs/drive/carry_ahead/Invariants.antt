@@ -1,5 +1,5 @@
 use Rattle.std.proofs.Common.{ℕ, ◌+◌, ◌<◌, ◌≡◌, List, length}
-use Rattle.meter_run.{specs.Source.{HasGiven}, proofs.WholeDrive.{IsOnWay}}
+use Rattle.meter_run.{specs.Common.{HasGiven}, proofs.WholeDrive.{IsOnWay}}
 use Rattle.meter_run.proofs.drive.carry_ahead.Given as goal
 
 -- so far the runs of bytes that were ahead were given, and their events were carried out; some bytes still are ahead

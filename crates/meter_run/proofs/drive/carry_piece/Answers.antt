@@ -1,6 +1,6 @@
 use Rattle.std.proofs.Common.{◌++◌, ◌∙◌, List, Ok, Some, ap, rules, sym}
-use Rattle.outside.proofs.Laws.{may_rise_more, may_rise_not}
-use Rattle.meter_run.{specs.Common.{Event}, proofs.EventLists.{no_more, not_some, went_well}}
+use Rattle.{outside.proofs.Laws.{may_rise_more, may_rise_not}, drive_source.proofs.Laws.{not_some}}
+use Rattle.meter_run.{specs.Common.{Event}, proofs.EventLists.{no_more, went_well}}
 use Rattle.meter_run.proofs.WholeDrive.{answer_of_call, answers_then, bad_not_fault, breaks_as, carries_filled}
 use Rattle.meter_run.proofs.WholeDrive.{err_then, filled_is, some_not_none, stops_before, takes_as}
 use Rattle.meter_run.proofs.drive.carry_piece.Goals as goal

@@ -1,6 +1,6 @@
 use Rattle.std.proofs.{Common.{◌∙◌, Err, ap, refl, sym}, lemmas.Result.{err_from_is_err_and}}
-use Rattle.{tariff_tree.specs.Tree.{tree_of}, call_ends.proofs.Laws.{same_fault}}
-use Rattle.store_commands.{specs.Seal.{are_decimals}, proofs.Sealings.{no_tariff-decimals}}
+use Rattle.{call_ends.proofs.Laws.{same_fault}, store_commands.proofs.Sealings.{no_tariff-decimals}}
+use Rattle.store_commands.specs.{Common.{tree_of}, Seal.{are_decimals}}
 use Rattle.store_commands.proofs.seal.decimals_of.Goals as goal
 
 pub returns-clause-sound : goal.returns-clause-sound

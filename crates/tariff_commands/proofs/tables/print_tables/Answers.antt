@@ -1,8 +1,9 @@
 use Rattle.std.proofs.Common.{◌∙◌, Err, ap, arith, refl, sym}
-use Rattle.{call_ends.specs.declared.ending.Ended.TheVariants.{Done}, tariff_commands.specs.Tables.{tables_answer}}
+use Rattle.{tariff_compile.specs.Tables.{TableParts}, call_ends.specs.declared.ending.Ended.TheVariants.{Done}}
 use Rattle.call_ends.proofs.Laws.{carries-printed, done_not_board, fails-text, makes-read, makes-unread, not_board-text}
 use Rattle.call_ends.proofs.Laws.{prints-by, prints-none, read_fault-text, reads-bad, reads-ok, refuses-bad}
-use Rattle.tariff_commands.{specs.Common.{TableParts, ended_for, rows_text, shows}, proofs.TariffAnswers.{tabulates}}
+use Rattle.tariff_commands.{specs.Common.{ended_for, rows_text, shows}, proofs.TariffAnswers.{tabulates}}
+use Rattle.tariff_commands.specs.Tables.{tables_answer}
 use Rattle.tariff_commands.proofs.tables.print_tables.Goals as goal
 
 pub returns-in-Err : goal.returns-in-Err

@@ -1,0 +1,8 @@
+-- Rules: the commands that go through a drive by the plain program
+pub mod Bench
+pub mod Explain
+pub mod ExplainedText
+-- For proofs
+pub mod BenchSteps
+pub mod ExplainSteps
+pub mod Common
