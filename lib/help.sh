@@ -30,11 +30,12 @@ help() {
   echo "$page says more.$(! is_installed || echo " docs/ and examples/ lie in $top.")"
 }
 
-# What to type for a command: its rows.
+# What to type for a command: its rows. A store lies where a command is typed, and that is not to be the installed tree.
 help_on() {
   local row what example from='from the top of the checkout'
-  ! is_installed || from="from $top"
+  ! is_installed || from='from a folder of your own'
   while IFS='|' read -r row what example; do
+    ! is_installed || example=${example// examples\// "$(printf %q "$top")/examples/"}
     printf 'usage: %s %s\n%s\n' "$name" "$row" "$what"
     printf 'example, %s: %s %s\n' "$from" "$called" "$example"
   done <<<"$1"
