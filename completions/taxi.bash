@@ -1,7 +1,16 @@
-# Completion for taxi in bash. Made of bin/taxi by tools/make/completions.
+# Completion for taxi and hiring_log in bash. It runs no program; tests/completions compares it with what `help` lists. Names
+# of files are left to the shell's own completion: they come into no `eval` and no `compgen -W`, and only what was typed behind
+# -C is used, as the name of a folder.
 _taxi() {
-  local at=1 folder= choices= choice ending= current=${COMP_WORDS[COMP_CWORD]}
+  local at=1 folder= choices= choice ending= current=${COMP_WORDS[COMP_CWORD]} commands='file show' faults= options='-C'
   COMPREPLY=()
+  if [ "${1##*/}" = taxi ]; then
+    commands='check faults form tables lines compare fare seal run bench explain totals sealed port gen offsets mark shifts'
+    faults='TooLong Syntax NoStep StepZero Duplicate TooManyLines UnknownNumber NoDefaultRate NoDefaultInitial
+      LineAfterDefault BadDate AmountTooBig MeasureZero NoCommonMeasure TooManyCuts TooManyCells
+      Unknown Twice BadValue Missing BadLine SameMonth'
+    options='-C --now'
+  fi
   while [ "$at" -lt "$COMP_CWORD" ]; do
     case ${COMP_WORDS[at]} in
       --now) at=$((at + 1)) ;;
@@ -13,44 +22,19 @@ _taxi() {
     esac
   done
   case "$((COMP_CWORD - at)) ${COMP_WORDS[at]}" in
-    '0 -'*) choices='-C --now -h --help --version' ;;
-    '0 '*) choices='check faults form tables lines compare fare seal run bench explain totals sealed port gen offsets mark shifts help version' ;;
-    '1 help') choices='check faults form tables lines compare fare seal run bench explain totals sealed port gen offsets mark shifts TooLong Syntax NoStep StepZero Duplicate TooManyLines UnknownNumber NoDefaultRate NoDefaultInitial LineAfterDefault BadDate AmountTooBig MeasureZero NoCommonMeasure TooManyCuts TooManyCells Unknown Twice BadValue Missing BadLine SameMonth' ;;
-    '1 check') ending=tariff ;;
-    '1 faults') ending=tariff ;;
-    '1 form') ending=tariff ;;
-    '1 tables') ending=tariff ;;
-    '2 tables') ;;
-    '1 lines') ending=tariff ;;
-    '2 lines') ;;
-    '1 compare') ending=tariff ;;
-    '2 compare') ending=tariff ;;
-    '3 compare') ;;
-    '1 fare') ending=tariff ;;
-    '2 fare') ending=drive ;;
-    '3 fare') ;;
-    '1 seal') ending=tariff ;;
-    '2 seal') ending=params ;;
-    '1 run') ending=tariff ;;
-    '2 run') ending=drive ;;
-    '1 bench') ending=tariff ;;
-    '2 bench') ending=drive ;;
-    '3 bench') ending=readings ;;
-    '1 explain') ending=tariff ;;
-    '2 explain') ending=drive ;;
-    '3 explain') ending=params ;;
-    '1 totals') ;;
-    '1 sealed') ;;
-    '1 port') ending=requests ;;
-    '1 gen') ;;
-    '2 gen') ;;
-    '1 offsets') ending=rules ;;
-    '2 offsets') ;;
-    '3 offsets') ;;
+    '0 -'*) choices="$options -h --help --version" ;;
+    '0 '*) choices="$commands help version" ;;
+    '1 help') choices="$commands $faults" ;;
     '1 mark') choices='on off' ;;
-    '2 mark') ;;
+    '1 check' | '1 faults' | '1 form' | '1 tables' | '1 lines' | '1 compare' | '2 compare') ending=tariff ;;
+    '1 fare' | '1 seal' | '1 run' | '1 bench' | '1 explain') ending=tariff ;;
+    '2 fare' | '2 run' | '2 bench' | '2 explain') ending=drive ;;
+    '2 seal' | '3 explain') ending=params ;;
+    '3 bench') ending=readings ;;
+    '1 port') ending=requests ;;
+    '1 offsets') ending=rules ;;
     '1 shifts') ending=book ;;
-    *) return ;;
+    '1 file') ending=roll ;;
   esac
   if [ -n "$ending" ]; then
     # A name of a file: one of the ending, or a folder, or where none has the ending any name.
@@ -75,4 +59,4 @@ _taxi() {
 _taxi_files() {
   if compgen -f -X "!*.$1" -- "$2"; then compgen -d -- "$2"; else compgen -f -- "$2"; fi
 }
-complete -o default -F _taxi taxi
+complete -o default -F _taxi taxi hiring_log
