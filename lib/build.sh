@@ -44,7 +44,7 @@ commit() {
 # counts the functions of all crates, and the time of those that have to be proved.
 read_shares() {
   local crate part functions stale=''
-  while read -r crate part functions; do
+  while read -r crate part functions _; do
     share[$crate]=$part has[$crate]=$functions
   done < <(grep -v '^#' "$top/lib/shares")
   for crate in $crates; do

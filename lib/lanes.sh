@@ -41,7 +41,8 @@ give() {
   done
 }
 
-# The crates, those first that have the longest way behind them, up to the program.
+# The crates, those first that have the longest way behind them, up to the program; in front of each stands that way, in
+# tenths of a minute.
 longest_first() {
   awk -F: -v needed=" $crates " '
     FNR == NR { if ($0 !~ /^#/) { split($0, part, " "); takes[part[1]] = part[2] } next }
@@ -54,7 +55,7 @@ longest_first() {
         k = split(below[i], low, " ")
         for (; k; k--) if (way[low[k]] < way[name[i]]) way[low[k]] = way[name[i]]
       }
-    }' "$top/lib/shares" "$top/crates.txt" | sort -rn | cut -d' ' -f2
+    }' "$top/lib/shares" "$top/crates.txt" | sort -rn
 }
 
 # The first crate that can be proved in a lane, if there is one: of the crates that the program needs those that it stands on
@@ -71,15 +72,28 @@ next_in() {
   done
 }
 
+# Whether the crate that begins in a lane is to have a second job: if no other could go on beside it, even once the
+# other lanes have ended; and if a processor has nothing to do beside it and one job in each other lane, and its way is
+# not far off the longest that is left: at least four fifths of that.
+wants_second_job() {
+  local at other busy=2 longest=0
+  [ ${#folder[@]} -gt 1 ] && [ -n "$(next_in 1 "$(printf '%s ' "${of[@]}")")" ] || return 0
+  for at in "${!folder[@]}"; do [ "$at" -eq "$1" ] || busy=$((busy + ${jobs_in[at]:-1})); done
+  [ "$busy" -le "$(nproc)" ] && [ "$(free_memory)" -ge 8 ] || return 1
+  for other in $todo "${of[@]}"; do
+    [ -z "$other" ] || [ "${way[$other]:-0}" -le "$longest" ] || longest=${way[$other]}
+  done
+  [ $((${way[$crate]:-0} * 5)) -ge $((longest * 4)) ]
+}
+
 # Begins with the next crate in a lane.
 begin_in() {
   local next
   next=$(next_in "$1")
   [ -n "$next" ] || return 0
   crate=$next todo=${todo/ $next / } place=$((place + 1)) jobs=1
-  # It has a second job, if there is room, where no other crate could go on beside it, even once the other lanes have ended.
-  [ ${#folder[@]} -gt 1 ] && [ -n "$(next_in 1 "$(printf '%s ' "${of[@]}")")" ] || jobs=$most_jobs
-  of[$1]=$next
+  ! wants_second_job "$1" || jobs=$most_jobs
+  of[$1]=$next jobs_in[$1]=$jobs
   # The program itself is built by a run that needs no file.
   # shellcheck disable=SC2086
   if [ "$crate" = "$program_crate" ]; then set -- "$1" $sample; else set -- "$1"; fi
@@ -98,7 +112,7 @@ note_lanes() {
 
 # Ends with the crate of a lane whose process has ended.
 end_in() {
-  crate=${of[$1]} of[$1]=''
+  crate=${of[$1]} of[$1]='' jobs_in[$1]=''
   wait "${pid[$1]}" || return 1
   made+="$crate "
   count_done
@@ -117,9 +131,10 @@ end_lanes() {
 
 # Proves and builds the crates in all lanes.
 build_in_lanes() {
-  local todo made=' ' second=0 at status=0 jobs most_jobs=2 of=() pid=() folder=()
+  local todo=' ' made=' ' second=0 at status=0 jobs most_jobs=2 of=() pid=() folder=() jobs_in=() length
+  local -A way=()
   crates=${crates//$'\n'/ }
-  todo=" $(longest_first | sed 's/$/ /' | tr '\n' ' ') "
+  while read -r length at; do way[$at]=$length todo+="$at "; done < <(longest_first)
   trap 'end_lanes; exit 130' INT TERM
   make_lanes || status=1
   if [ "$(nproc)" -lt 2 ] || [ "$(free_memory)" -lt 10 ]; then most_jobs=1; fi
