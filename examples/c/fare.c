@@ -34,6 +34,7 @@ int main(int count, char **words) {
     struct text tariff = read_file(words[1]), params = read_file(words[2]), drive = read_file(words[3]);
     uint8_t status = c_meter_fare(tariff.bytes, tariff.size, params.bytes, params.size, drive.bytes, drive.size, shown,
                                   sizeof shown, &used);
+    if (status != 0) return status;
     if (fwrite(shown, 1, used, stdout) != used || fflush(stdout) != 0) return 8;
-    return status;
+    return 0;
 }

@@ -1,9 +1,10 @@
 //! What a meter shows of a drive.
-ghost use Rattle.std.specs.Prelude.{◌<◌, ◌≡◌, ◌≤◌, ◌⊎◌, Err, IfErr, IfOk, IsErr, OnOk, length, take};
-ghost use Rattle.{memory_devices.specs.MemoryBoard.{text_of}, seal_record.specs.Reading.{params_read}};
-ghost use Rattle.{meter_model.specs.Setting.{Setting}, meter_states.specs.Setting.{IsSettingOf}};
+ghost use Rattle.std.specs.Prelude.{◌++◌, ◌<◌, ◌≡◌, ◌≤◌, ◌⊎◌, Err, IfErr, IfOk, IsErr, OnOk, length, take};
+ghost use Rattle.{outside.specs.Faults.{Rose}, memory_devices.specs.MemoryBoard.{faults_of, text_of}};
+ghost use Rattle.{memory_devices.specs.MemoryFiles.{rest_of}, meter_model.specs.Setting.{Setting}};
+ghost use Rattle.{meter_states.specs.Setting.{IsSettingOf}, c_meter.specs.Shown.{ShowsDrive}};
 ghost use Rattle.c_meter.specs.Common.{Whole, drive_end, drive_shown};
-ghost use Rattle.c_meter.specs.Shown.{HasNoRoom, HasNoTariff, IsNotWhole, ShowsDrive};
+ghost use Rattle.c_meter.specs.Shown.{HasNoDrive, HasNoParams, HasNoRoom, HasNoTariff, IsNotWhole, IsOfLines};
 
 use crate::making::{Stop, made_of};
 use memory_devices::{MemoryBoard, MemoryFiles};
@@ -30,6 +31,34 @@ fn put_lines(lines: &[u8], text: &mut [u8]) -> Result<usize, Stop>
     Ok(used)
 }
 
+/// Carries out the drive of word 0 on a board in memory, which gets the lines that are shown. `NoMemory` only if a call
+/// of the files or of the board failed, so its count of faults rose.
+fn carry_out<L: Ledger>(
+    tables: &Tables,
+    seal: &Seal,
+    files: &mut MemoryFiles,
+    board: &mut MemoryBoard,
+    steps: &mut Steps<L>,
+) -> Result<(), Stop>
+    requires constant { tables.now.constant ≡ seal.now.params.constant }
+    ensures shown { OnOk result ((s : Setting) → IsSettingOf s tables.now seal.now
+        → text_of board.new.state ≡ text_of board.old.state ++ drive_shown s (rest_of files.old 0)) }
+    ensures whole { OnOk result (drive_end (rest_of files.old 0) ≡ Whole) }
+    ensures no_drive { result ≡ Err Stop.NoDrive → IsNotWhole (rest_of files.old 0) }
+    ensures memory { result ≡ Err Stop.NoMemory → Rose files.old.failed files.new.failed
+        ⊎ Rose (faults_of board.old.state) (faults_of board.new.state) }
+    ensures why { IfErr result (λ stop. (stop ≡ Stop.NoDrive) ⊎ (stop ≡ Stop.NoMemory)) }
+{
+    match dry_run(tables, seal, files, 0, board, steps) {
+        Ok(()) => Ok(()),
+        Err(RunFault::BadDrive(_)) => Err(Stop::NoDrive),
+        Err(RunFault::TooLong) => Err(Stop::NoDrive),
+        // Both fail only if memory ran out.
+        Err(RunFault::ReadFault) => Err(Stop::NoMemory),
+        Err(RunFault::BoardFault) => Err(Stop::NoMemory),
+    }
+}
+
 /// Carries out a drive on a board in memory, which gets the lines that are shown.
 fn board_of<L: Ledger>(
     alloc: Global,
@@ -54,13 +83,9 @@ fn board_of<L: Ledger>(
     let Ok(mut board) = MemoryBoard::new(alloc, &[0; STORE_SIZE], &[]) else {
         return Err(Stop::NoMemory);
     };
-    match dry_run(tables, seal, &mut files, 0, &mut board, steps) {
+    match carry_out(tables, seal, &mut files, &mut board, steps) {
         Ok(()) => Ok(board),
-        Err(RunFault::BadDrive(_)) => Err(Stop::NoDrive),
-        Err(RunFault::TooLong) => Err(Stop::NoDrive),
-        // Both fail only if memory ran out.
-        Err(RunFault::ReadFault) => Err(Stop::NoMemory),
-        Err(RunFault::BoardFault) => Err(Stop::NoMemory),
+        Err(stop) => Err(stop),
     }
 }
 
@@ -80,9 +105,10 @@ pub(crate) fn show_drive<L: Ledger>(
     ensures shown { IfOk result (λ used. ShowsDrive tariff.now params.now drive.now (take used text.new)) }
     ensures within { IfOk result (λ used. used ≤ length text.old) }
     ensures no_tariff { result ≡ Err Stop.NoTariff → HasNoTariff tariff.now }
-    ensures no_params { result ≡ Err Stop.NoParams → IsErr (params_read params.now) }
-    ensures no_drive { result ≡ Err Stop.NoDrive → IsNotWhole drive.now }
+    ensures no_params { result ≡ Err Stop.NoParams → HasNoParams tariff.now params.now }
+    ensures no_drive { result ≡ Err Stop.NoDrive → HasNoDrive tariff.now params.now drive.now }
     ensures no_room { result ≡ Err Stop.NoRoom → HasNoRoom tariff.now params.now drive.now (length text.old) }
+    ensures memory { result ≡ Err Stop.NoMemory → IsOfLines tariff.now }
 {
     let (tables, seal) = match made_of(alloc, tariff, params) {
         Ok(made) => made,
