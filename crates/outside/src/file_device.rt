@@ -6,6 +6,7 @@ use crate::board::{Board, LOG_SIZE, STORE_SIZE};
 use crate::failures::counted;
 use crate::fault::Failed;
 use crate::file_store::FileStore;
+use crate::heard::{Act, Heard};
 use crate::held_file::HeldFile;
 use crate::printer::Printer;
 use crate::printing::print_whole;
@@ -52,6 +53,7 @@ where
     alloc: Global,
     store: FileStore<R::File>,
     failures: u64,
+    heard: Heard,
 }
 
 /// The meter's board of the system, whose store is the file `taxi.store`.
@@ -83,6 +85,7 @@ where
             alloc,
             store: FileStore::new(METER, STORE_SIZE as u64, Access::Read),
             failures: 0,
+            heard: Heard::nothing(),
         }
     }
 
@@ -95,6 +98,7 @@ where
             alloc,
             store: FileStore::new(METER, STORE_SIZE as u64, Access::Write),
             failures: 0,
+            heard: Heard::nothing(),
         }
     }
 }
@@ -112,6 +116,7 @@ where
             alloc,
             store: FileStore::new(LOG, LOG_SIZE as u64, Access::Read),
             failures: 0,
+            heard: Heard::nothing(),
         }
     }
 
@@ -124,6 +129,7 @@ where
             alloc,
             store: FileStore::new(LOG, LOG_SIZE as u64, Access::Write),
             failures: 0,
+            heard: Heard::nothing(),
         }
     }
 }
@@ -132,6 +138,11 @@ impl<R: HostSystem + Print + Clock + Drop, const N: usize> FileDevice<R, N>
 where
     R::File: HeldFile,
 {
+    /// What it has kept of its calls.
+    pub fn heard(&self) -> &Heard {
+        &self.heard
+    }
+
     /// Prints if no output is the store.
     fn attempt_print(&mut self, bytes: &[u8]) -> io::Result<()>
         ensures stays { StaysLost self.old.lost self.new.lost result }
@@ -176,6 +187,8 @@ where
     {
         steps.spend();
         let answer = self.attempt_print(bytes);
+        self.heard.print(bytes);
+        self.heard.fail(Act::Print, &answer);
         counted(&mut self.failures, answer)
     }
 }
@@ -192,6 +205,8 @@ where
     {
         steps.spend();
         let answer = self.store.read(&self.rt, self.alloc, at, buf);
+        self.heard.read(at, buf);
+        self.heard.fail(Act::Read, &answer);
         counted(&mut self.failures, answer)
     }
 
@@ -202,6 +217,8 @@ where
     {
         steps.spend();
         let answer = self.store.write_at(&self.rt, self.alloc, at, bytes);
+        self.heard.write(at, bytes);
+        self.heard.fail(Act::Write, &answer);
         counted(&mut self.failures, answer)
     }
 
@@ -213,6 +230,7 @@ where
     {
         steps.spend();
         let answer = self.store.sync(&self.rt, self.alloc);
+        self.heard.fail(Act::Sync, &answer);
         counted(&mut self.failures, answer)
     }
 }

@@ -25,6 +25,11 @@ pub(crate) fn require_apart<R: HostSystem>(rt: &R, alloc: Global) -> io::Result<
     Ok(())
 }
 
+/// Whether no output is a store or a log, of any folder, or one in the making, as far as the system tells.
+pub fn outputs_are_apart<R: HostSystem>(rt: &R, alloc: Global) -> bool {
+    require_apart(rt, alloc).is_ok()
+}
+
 /// Whether an output is a file that the programs keep. One that is closed is no file.
 fn is_kept<R: HostSystem>(rt: &R, alloc: Global, output: &str) -> io::Result<bool> {
     match fs::metadata(rt, output) {
