@@ -22,18 +22,19 @@ use taxi_units::Steps;
 /// A store in a file of the working folder, of which the first `N` bytes are used, and the standard output. It tells
 /// neither what the file holds nor what was printed: that both behave as a board's should is trusted. The count of
 /// faults is the number of calls that failed, up to the last value of a `u64`. A call fails if the system answered an
-/// error, but for those that docs/STORE.md names as passed over, or if the device itself finds something wrong. A call
-/// that a signal interrupts is made again, a bounded number of times, and an output that takes nothing is waited for, at
-/// most ten minutes. All of it is this project's own.
+/// error, but for those that docs/STORE.md names as passed over, or if the device itself finds something wrong. A
+/// call that a signal interrupts is made again, a bounded number of times, and an output that takes nothing is waited
+/// for, at most ten minutes. All of it is this project's own.
 ///
-/// - The first call, even a print, looks at the standard output and the standard error, and for the file. If one of them
-///   is the meter's store, the hiring log or one in the making, or a file of such a name in another folder, each call
-///   fails, and so if the system doesn't tell what they are.
+/// - The first call, even a print, looks at the standard output and the standard error, and for the file. If one of
+///   them is the meter's store, the hiring log or one in the making, or a file of such a name in another folder, each
+///   call fails, and so if the system doesn't tell what they are.
 /// - A file that was found is opened at the first call of the store, and is locked from then on, even if it is only
 ///   read. If another has the lock, the call fails. A file that isn't plain, or that is shorter than the store, is
 ///   refused: nothing is ever written to it.
-/// - An opening syncs the file and its folder: at the end of a symbolic link, the file's own. A device to write removes
-///   the name of a store in the making if it is a second one of the store's file, in the working folder or the file's own.
+/// - An opening syncs the file and its folder: at the end of a symbolic link, the file's own. A device to write
+///   removes the name of a store in the making if it is a second one of the store's file, in the working folder or
+///   the file's own.
 /// - If there was no file, the store reads as zeros, and the first write makes it: whole, on the medium, for its owner
 ///   alone, and only then under its name. If another has made it since, each call of the store fails.
 /// - A device to read fails at each write. It opens even a file that may not be written; a device to write refuses that
@@ -75,8 +76,8 @@ impl<R: HostSystem + Print + Clock + Drop> FileDevice<R, STORE_SIZE>
 where
     R::File: HeldFile,
 {
-    /// The board to read the meter's store: each write fails. It asks nothing of the system yet. Only the first call and
-    /// an opening use the allocator, for the paths of the outputs and of a file at the end of a symbolic link.
+    /// The board to read the meter's store: each write fails. It asks nothing of the system yet. Only the first call
+    /// and an opening use the allocator, for the paths of the outputs and of a file at the end of a symbolic link.
     pub fn to_read(rt: R, alloc: Global) -> FileDevice<R, STORE_SIZE>
         ensures { result ≡ record { failed = 0; lost = false } }
     {

@@ -11,9 +11,9 @@ use std::os::unix::fs::MetadataExt;
 use std::rt::Files as HostSystem;
 use std::{fs, io};
 
-/// Removes the name of a store in the making if it is a second one of this open and locked store: whoever wrote under it
-/// would write the store. A making that was cut leaves both names, where the file lies. It stays if the store's own name
-/// leads to it, or if nobody can tell.
+/// Removes the name of a store in the making if it is a second one of this open and locked store: whoever wrote under
+/// it would write the store. A making that was cut leaves both names, where the file lies. It stays if the store's
+/// own name leads to it, or if nobody can tell.
 pub(crate) fn remove_second_name<R: HostSystem>(
     rt: &R,
     names: StoreNames,
