@@ -1,8 +1,9 @@
--- Rules: which event a line of standard input says.
-use Rattle.std.specs.Prelude.{ℕ, List, None, Option, Some, codes, if◌then◌else◌, option_map}
+-- Rules: which event a line of standard input says, and which events all lines say.
+use Rattle.{std.specs.{Iterator.{Drains}, Prelude.{option_map, string_bytes}}, taxi_units.specs.Reading.{word_at}}
+use Rattle.std.specs.Prelude.{ℕ, ◌≡◌, Err, List, None, Ok, Option, Result, Some, String, codes, if◌then◌else◌, map}
 use Rattle.taxi_units.specs.{Number.{number_in}, declared.event.Event.TheVariants.{Down, Pulses, Tick, Up}}
-use Rattle.{taxi_units.specs.{Reading.{word_at}, Words.{is_word}}, pocket_meter.specs.Common.{Event}}
 use Rattle.taxi_units.specs.{Time.{first_second, last_second}, declared.event.Key.TheVariants.{Clear, Hire, Stop}}
+use Rattle.{taxi_units.specs.Words.{is_word}, pocket_meter.specs.Common.{Event}}
 use Rattle.taxi_units.specs.declared.event.Event.TheVariants as events
 
 -- the second of what stands behind `up `, if anything does, is a number of the meter's seconds
@@ -24,3 +25,16 @@ event_said line =
     else if is_word line (codes "stop") then Some (events.Key Stop)
     else if is_word line (codes "clear") then Some (events.Key Clear)
     else pulses_said (word_at (codes "pulses ") line) line
+
+-- a line that was read says the event that it names, and one that wasn't read says none
+abbrev pub line_said : {Z E : Type 0} → Result (String Z) E → Option Event
+line_said (Ok line) = event_said (string_bytes line)
+line_said (Err why) = None
+
+-- events are those of all lines if the lines came one after the other up to the last, and each says the event at its
+-- place
+pub record AreSaidByAll {S Z E : Type 0} (next_gives : S → Option (Result (String Z) E) → S → Type 0) (lines : S)
+    (events : List Event) : Type 0 where
+  pub read : List (Result (String Z) E)
+  pub to_the_last : Drains next_gives lines read
+  pub said : map line_said read ≡ map Some events

@@ -2,8 +2,9 @@
 //! an event of each line of standard input, and prints what the display shows. docs/use/EMBEDDING.md leads through it.
 #![tactic(auto)]
 
+ghost use Rattle.{std.specs.Iterator.{IsFinite}, outside.specs.Faults.{HasCause}};
 ghost use Rattle.std.specs.{Option.{ForSome}, Prelude.{[], ◌*◌, ◌++◌, ◌+◌, ◌<◌, ◌≡◌, ◌≤◌, All, IfSome, OnOk, length}};
-ghost use Rattle.{outside.specs.Faults.{HasCause}, meter_texts.specs.MadeOf.{AreMadeOf}};
+ghost use Rattle.meter_texts.specs.MadeOf.{AreMadeOf};
 ghost use Rattle.pocket_meter.specs.Common.{IsSettingOf, IsTimely, Setting, first_state, opened, run, shown_texts};
 ghost use Rattle.pocket_meter.specs.Lines as spec;
 
@@ -79,16 +80,29 @@ fn event_of(line: &[u8]) -> Option<Event>
     }
 }
 
-/// The events of all lines of standard input. `None` if one isn't read, or says none.
-fn read_events(rt: &HostRuntime) -> Option<Vec<Event>>
+/// The events that lines say, in order. `None` at the first line that isn't read or says none, or if memory runs out.
+fn events_of<I: Iterator<Item = io::Result<String>> + Drop>(
+    alloc: Global,
+    lines: I,
+) -> Option<Vec<Event>>
+    requires can { I.can_next lines }
+    requires ends { IsFinite (I.remaining lines) }
+    ensures said { IfSome result (λ events. spec.AreSaidByAll I.next_gives lines events.items) }
     ensures timely { ForSome result (λ events. All IsTimely events.items) }
 {
-    let mut events = Vec::new(rt.alloc());
-    for line in rt.lines(rt.alloc()) {
+    let mut events = Vec::new(alloc);
+    for line in lines {
         let event = event_of(line.ok()?.as_bytes())?;
         events.push(event).ok()?;
     }
     Some(events)
+}
+
+/// The events of all lines of standard input. `None` if one isn't read, or says none, or if memory runs out.
+fn read_events(rt: &HostRuntime) -> Option<Vec<Event>>
+    ensures timely { ForSome result (λ events. All IsTimely events.items) }
+{
+    events_of(rt.alloc(), rt.lines(rt.alloc()))
 }
 
 /// The tables of a tariff's text, and a seal with the parameters of the other text. The seal has no digest, which

@@ -1,4 +1,4 @@
-use Rattle.std.proofs.{Common.{◌++◌, ◌∙◌, List, ap, arith, refl, subst, sym}, lemmas.List.{append-nil, take_all}}
+use Rattle.std.proofs.{Common.{◌++◌, ◌∙◌, List, ap, arith, refl, sym}, lemmas.List.{append-nil, take_all}}
 use Rattle.meter_run.proofs.Laws.{begins, ready_first}
 use Rattle.pocket_meter.specs.Common.{Event, first_state, opened, run, shown_texts}
 use Rattle.pocket_meter.proofs.CarriedEvents.{fails_behind, printed_more, stands_more}
