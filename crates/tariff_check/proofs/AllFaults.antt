@@ -1,13 +1,14 @@
 -- All faults of a tariff: the first of them is the one that is answered, and each that is there is named.
-use Rattle.std.specs.{List.{Contains, list_any, slice_get, slice_index_or}, Prelude.{◌^◌, nat_lt, not}}
-use Rattle.{std.specs.Option.{option_or}, tariff_check.specs.Faults.{first_some}}
-use Rattle.std.proofs.Common.{[], ℕ, ◌++◌, ◌<◌, ◌==◌, ◌||◌, ◌↔◌, ◌∙◌, ◌∷◌, ◌≡◌, All, Bool, List, None, Option, Some, ap}
-use Rattle.std.proofs.{Common.{arith, false, length, refl, subst, suc, sym, true, zero}, lemmas.Bool.{eqb-true}}
+use Rattle.std.specs.{List.{Contains, list_any, slice_get, slice_index_or}, Prelude.{◌^◌, AllPairs, nat_lt, not}}
+use Rattle.std.{specs.Option.{option_or}, proofs.lemmas.{Bool.{eqb-true}, List.Kept.{AllPairs-cons}}}
+use Rattle.std.proofs.Common.{[], ℕ, ◌++◌, ◌+◌, ◌<◌, ◌==◌, ◌||◌, ◌↔◌, ◌∙◌, ◌∷◌, ◌≡◌, ◌≤◌, All, Bool, List, None, Option}
+use Rattle.std.proofs.Common.{Some, ap, arith, false, length, refl, subst, suc, sym, true, zero}
 use Rattle.std.proofs.{Math.Nat.{mul-zero, zero-div, zero-mul}, lemmas.List.Elements.{Contains-append_right}}
 use Rattle.std.proofs.lemmas.List.Elements.{All-cons, All-head, All-nil, All-tail, All-weaker, Contains-append_left}
-use Rattle.tariff_check.specs.AllFaults.{all_faults, or_others, those_there}
+use Rattle.tariff_check.specs.AllFaults.{all_faults, or_others, row_of_fault, those_there}
 use Rattle.tariff_check.specs.Common.{CheckFault, Entry, Line, Tree, rate}
-use Rattle.tariff_check.specs.Faults.{HasNone, IsSound, fault_of, faults_before_cuts, faults_from_cuts, faults_of}
+use Rattle.tariff_check.specs.Faults.{HasNone, IsSound, fault_at, fault_if, fault_of, faults_before_cuts}
+use Rattle.tariff_check.specs.Faults.{faults_from_cuts, faults_of, first_some}
 use Rattle.tariff_check.specs.{Lines.{is_for_nothing}, Measure.{common_with, gcd_of, lcm_of, measure_of, measures_of}}
 use Rattle.tariff_check.proofs.FaultStages.{none_if_sound, or_assoc, sound_if_none}
 
@@ -129,6 +130,114 @@ pub each_of_cuts_is_named : (ls : List Line) (fault : CheckFault) → HasNone (f
 each_of_cuts_is_named ls fault none h =
     subst (λ (faults : List CheckFault). Contains (or_others faults (those_there (faults_from_cuts ls))) fault)
     (sym (none_there (faults_before_cuts ls) none)) (found_there (faults_from_cuts ls) fault h)
+
+-- ---- they are in the order of the table of faults, each kind once
+
+-- a fault that may be there has a row of the table
+abbrev HasRow : ℕ → Option CheckFault → Type 0
+HasRow row None = Unit {0}
+HasRow row (Some fault) = row_of_fault fault ≡ row
+
+-- faults that are each there or not have the rows of the table one after the other
+abbrev HaveRows : ℕ → List (Option CheckFault) → Type 0
+HaveRows row [] = Unit {0}
+HaveRows row (fault ∷ faults) = HasRow row fault × HaveRows (row + 1) faults
+
+abbrev IsAbove : CheckFault → CheckFault → Type 0
+IsAbove above below = row_of_fault above < row_of_fault below
+
+abbrev IsFrom : ℕ → CheckFault → Type 0
+IsFrom row fault = row ≤ row_of_fault fault
+
+from_later : (row : ℕ) (faults : List CheckFault) → All (IsFrom (row + 1)) faults → All (IsFrom row) faults
+from_later row faults later =
+    All-weaker (IsFrom (row + 1)) (IsFrom row) (λ fault h. omega (arith, h)) faults later
+
+rows_by : (row : ℕ) (x : Option CheckFault) (xs : List (Option CheckFault)) → HasRow row x
+    → All (IsFrom (row + 1)) (those_there xs) × AllPairs IsAbove (those_there xs)
+    → All (IsFrom row) (those_there (x ∷ xs)) × AllPairs IsAbove (those_there (x ∷ xs))
+rows_by row None xs has rest = (from_later row (those_there xs) rest.0, rest.1)
+rows_by row (Some fault) xs has rest = (
+  All-cons (IsFrom row) fault (those_there xs) (omega (arith, has)) (from_later row (those_there xs) rest.0),
+  AllPairs-cons IsAbove fault (those_there xs) (All-weaker (IsFrom (row + 1)) (IsAbove fault)
+      (λ later h. omega (arith, h, has)) (those_there xs) rest.0) rest.1,
+)
+
+by_rows : (row : ℕ) (xs : List (Option CheckFault)) → HaveRows row xs
+    → All (IsFrom row) (those_there xs) × AllPairs IsAbove (those_there xs)
+by_rows row [] have = (All-nil (IsFrom row), λ i j d lt within. absurd (omega (arith, within)))
+by_rows row (x ∷ xs) have = rows_by row x xs have.0 (by_rows (row + 1) xs have.1)
+
+row_if : (row : ℕ) (there : Bool) (fault : CheckFault) → row_of_fault fault ≡ row → HasRow row (fault_if there fault)
+row_if row true fault is = is
+row_if row false fault is = tt
+
+row_at : (row : ℕ) (fault : ℕ → CheckFault) (line : Option ℕ) → ((number : ℕ) → row_of_fault (fault number) ≡ row)
+    → HasRow row (fault_at fault line)
+row_at row fault None is = tt
+row_at row fault (Some number) is = is number
+
+rows_before : (ls : List Line) → HaveRows 0 (faults_before_cuts ls)
+rows_before ls = (
+  row_if 0 _ _ refl,
+  (
+    row_if 1 _ _ refl,
+    (
+      row_at 2 _ _ (λ n. refl),
+      (
+        row_at 3 _ _ (λ n. refl),
+        (
+          row_at 4 _ _ (λ n. refl),
+          (
+            row_if 5 _ _ refl,
+            (
+              row_if 6 _ _ refl,
+              (
+                row_at 7 _ _ (λ n. refl),
+                (
+                  row_at 8 _ _ (λ n. refl),
+                  (
+                    row_at 9 _ _ (λ n. refl),
+                    (
+                      row_at 10 _ _ (λ n. refl),
+                      (row_if 11 _ _ refl, tt),
+                    ),
+                  ),
+                ),
+              ),
+            ),
+          ),
+        ),
+      ),
+    ),
+  ),
+)
+
+rows_from : (ls : List Line) → HaveRows 12 (faults_from_cuts ls)
+rows_from ls = (
+  row_if 12 _ _ refl,
+  (
+    row_if 13 _ _ refl,
+    (
+      row_if 14 _ _ refl,
+      (
+        row_if 15 _ _ refl,
+        (row_if 16 _ _ refl, tt),
+      ),
+    ),
+  ),
+)
+
+others_in_order : (faults others : List CheckFault) → AllPairs IsAbove faults → AllPairs IsAbove others
+    → AllPairs IsAbove (or_others faults others)
+others_in_order [] others first second = second
+others_in_order (fault ∷ faults) others first second = first
+
+pub named_in_order : (ls : List Line)
+    → AllPairs (λ (above below : CheckFault). row_of_fault above < row_of_fault below) (all_faults ls)
+named_in_order ls =
+    others_in_order (those_there (faults_before_cuts ls)) (those_there (faults_from_cuts ls))
+    (by_rows 0 (faults_before_cuts ls) (rows_before ls)).1 (by_rows 12 (faults_from_cuts ls) (rows_from ls)).1
 
 -- ---- the common measure is 0 if a measure is
 

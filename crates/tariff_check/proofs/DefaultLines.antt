@@ -3,10 +3,9 @@ use Rattle.std.{specs.{List.{list_any}, Option.{is_none}}, proofs.lemmas.List.{l
 use Rattle.std.proofs.Common.{[], ℕ, ◌<◌, ◌∷◌, ◌≡◌, All, Bool, List, None, Option, Some, arith, false, length, not}
 use Rattle.std.proofs.{Common.{refl, true}, lemmas.{List.Elements.{All-head, All-tail}, Option.{slice_get_within}}}
 use Rattle.tariff_tree.{specs.Choices.{Choice}, proofs.Laws.{first_lines_hold-conditions}}
-use Rattle.tariff_check.specs.Common.{Condition, Context, Entry, Tree, choice_place, choices, conditions_of, holds_if}
-use Rattle.tariff_check.{specs.Common.{values_of}, proofs.FaultStages.{faults_none, not_if}}
-use Rattle.tariff_check.specs.{Faults.{IsSound, has_default}, Parts.{initial_part, rate_part}}
-use Rattle.tariff_check.specs.declared.fault.CheckFault.TheVariants.{NoDefaultInitial, NoDefaultRate}
+use Rattle.tariff_check.specs.Common.{Condition, Context, Entry, NoDefaultInitial, NoDefaultRate, Tree, choice_place}
+use Rattle.tariff_check.specs.{Common.{choices, conditions_of, holds_if, values_of}, Parts.{initial_part, rate_part}}
+use Rattle.tariff_check.{specs.Faults.{IsSound, has_default}, proofs.FaultStages.{faults_none, not_if}}
 
 -- if one of some lines is without a condition, not all fail to hold
 default_holds : (x : Context) (conditions : List (Option Condition)) → list_any is_none conditions ≡ true

@@ -11,6 +11,7 @@ pub use Rattle.tariff_check.proofs.Amounts.{fit_initial as hirings_begin_with_fi
 pub use Rattle.tariff_check.proofs.Amounts.{has_amounts as hirings_begin_with_first_lines-amounts}
 pub use Rattle.tariff_check.proofs.CommonMeasure.{sound_measures as measures_are_least-sound}
 pub use Rattle.tariff_check.proofs.CutOrder.{each_in_order as cuts_are_in_order-numbers}
+pub use Rattle.tariff_check.proofs.RateMeasures.{of_rate_in_force as measures_are_least-in_force}
 pub use Rattle.tariff_check.proofs.SoundParts.{sound_parts as sound_tariffs_have_sound_parts-parts}
 pub use Rattle.tariff_check.proofs.Supplements.{none_of_other_numbers as supplements_are_numbered_to_16}
 

@@ -4,7 +4,7 @@ mod AllFaults
 mod Amounts
 -- the choices of the program are those of the tariff
 mod ChoiceLaws
--- each choice of the lines stands at its line
+-- each choice of the lines stands at its line, and none is left out
 mod ChoicePlaces
 -- the common measure is the least common multiple of all measures
 mod CommonMeasure
@@ -36,6 +36,8 @@ mod LineFacts
 mod MeasureLaws
 -- what holds of the lines of a tariff holds of its parts
 mod PartLaws
+-- the common measure is a multiple of both measures of the rate in force
+mod RateMeasures
 -- a sound tariff has its parts in their ranges
 mod SoundParts
 -- supplements outside the numbers that a text can have

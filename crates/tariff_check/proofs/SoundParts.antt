@@ -5,7 +5,7 @@ use Rattle.std.proofs.{Common.{length, refl, subst, true}, lemmas.{Bool.{eqb-fal
 use Rattle.tariff_check.specs.{Cells.{bands_between, cells_of}, Kinds.{IsSoundSaid, Said, is_great, part_of, said_by}}
 use Rattle.tariff_check.specs.Common.{AmountTooBig, BadDate, Choice, ChoiceKind, Dimension, Distance, Entry, IsFromTo}
 use Rattle.tariff_check.specs.Common.{IsWritable, Line, MeasureZero, Minute, MonthDay, NoCommonMeasure, NoStep}
-use Rattle.tariff_check.specs.Common.{Rounding, Supplement, Time, TooManyCells, TooManyLines, Tree, choices}
+use Rattle.tariff_check.specs.Common.{Rounding, StepZero, Supplement, Time, TooManyCells, TooManyLines, Tree, choices}
 use Rattle.tariff_check.{specs.Common.{largest_display_step}, proofs.LineFacts.{supplement_fact, zones_fact}}
 use Rattle.tariff_check.specs.{Counted.{HasNumbers}, Parts.{positions_part, step_of, step_part, zones_of, zones_part}}
 use Rattle.tariff_check.specs.{Cuts.{count_of, most_cuts}, Sound.{HasSoundParts, IsSoundHoliday, IsSoundSupplement}}
@@ -13,11 +13,10 @@ use Rattle.tariff_check.specs.{Faults.{IsSound, cuts_fault, faults_of, is_step_z
 use Rattle.tariff_check.specs.Lines.{atoms_in, first_line, has_bad_date, has_great_amount, has_measure_zero}
 use Rattle.tariff_check.specs.Lines.{is_after_nothing, is_for_nothing, is_no_holiday, is_one_too_many, is_undated}
 use Rattle.tariff_check.specs.Parts.{first_part, has_holidays, holiday_part, numbered_supplement, parts, positions_of}
-use Rattle.tariff_check.specs.SoundTariff.{AreChoices}
-use Rattle.tariff_check.specs.declared.{fault.CheckFault.TheVariants.{StepZero}, numbers.Numbers.{Numbers}}
+use Rattle.tariff_check.{specs.SoundTariff.{AreChoices}, proofs.FirstLine.{never}}
+use Rattle.tariff_check.{specs.declared.numbers.Numbers.{Numbers}, proofs.DefaultLines.{default_initial, default_rate}}
 use Rattle.tariff_check.proofs.{ChoiceLaws.{values_are}, FaultStages.{AreNone, faults_none, not_if, nowhere, or_false}}
-use Rattle.tariff_check.proofs.{CommonMeasure.{sound_measures}, DefaultLines.{default_initial, default_rate}}
-use Rattle.tariff_check.proofs.{FirstLine.{never}, MeasureLaws.{common_grows}, Supplements.{numbered_has}}
+use Rattle.tariff_check.proofs.{CommonMeasure.{sound_measures}, MeasureLaws.{common_grows}, Supplements.{numbered_has}}
 use Rattle.tariff_check.proofs.LineFacts.{IsGoodEntry, choice_fact, good_atoms, holiday_fact, positions_fact, step_fact}
 use Rattle.tariff_check.proofs.PartLaws.{Gives, choices_alike, few, first_part_has, holidays_alike, parts_all}
 

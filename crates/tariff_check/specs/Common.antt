@@ -10,7 +10,9 @@ pub use Rattle.tariff_tree.specs.declared.context.Context.{Context}
 pub use Rattle.tariff_check.specs.declared.{choice.{Choice.{Choice}, Choices.{Choices}}, resolving.Parts.{Parts}}
 pub use Rattle.tariff_check.specs.declared.choice.ChoiceKind.{ChoiceKind, TheVariants.{Initial, Minimum, Rate}}
 pub use Rattle.tariff_check.specs.declared.{choice.ChoiceLine.{ChoiceLine}, values.Supplement.{Supplement}}
-pub use Rattle.tariff_check.specs.declared.fault.CheckFault.{CheckFault, TheVariants.{TooManyCells, TooManyLines}}
-pub use Rattle.tariff_check.specs.declared.fault.CheckFault.TheVariants.{AmountTooBig, BadDate, Duplicate, MeasureZero}
-pub use Rattle.tariff_check.specs.declared.fault.CheckFault.TheVariants.{NoCommonMeasure, NoMemory, NoStep}
+pub use Rattle.tariff_check.specs.declared.fault.CheckFault.{CheckFault, TheVariants.{AmountTooBig, BadDate, Duplicate}}
+pub use Rattle.tariff_check.specs.declared.fault.CheckFault.TheVariants.{LineAfterDefault, MeasureZero, NoCommonMeasure}
+pub use Rattle.tariff_check.specs.declared.fault.CheckFault.TheVariants.{NoDefaultInitial, NoDefaultRate, NoMemory}
+pub use Rattle.tariff_check.specs.declared.fault.CheckFault.TheVariants.{NoStep, StepZero, TooManyCells, TooManyCuts}
+pub use Rattle.tariff_check.specs.declared.fault.CheckFault.TheVariants.{TooManyLines, UnknownNumber}
 pub use Rattle.tariff_check.specs.declared.fault.Dimension.{Dimension, TheVariants.{Distance, Minute, MonthDay, Time}}

@@ -1,14 +1,14 @@
 -- Rules: the faults of a tariff, in their order.
 use Rattle.std.specs.{List.{list_any}, Option.{option_or}, Prelude.{nat_lt, not, true}}
 use Rattle.std.specs.Prelude.{[], ℕ, ◌++◌, ◌==◌, ◌^◌, ◌∷◌, ◌≡◌, All, Bool, List, None, Option, Some, false, is_none}
-use Rattle.tariff_check.specs.{Cells.{cells_of}, Parts.{initial_part, positions_of, rate_part, step_of, zones_of}}
+use Rattle.tariff_check.specs.Cells.{cells_of}
 use Rattle.tariff_check.specs.Common.{AmountTooBig, BadDate, CheckFault, Dimension, Distance, Duplicate, Entry, Line}
-use Rattle.tariff_check.specs.Common.{MeasureZero, Minute, MonthDay, NoCommonMeasure, NoStep, Rounding, Time}
-use Rattle.tariff_check.specs.{Common.{TooManyCells, TooManyLines, Tree, choices, conditions_of}, Measure.{measure_of}}
+use Rattle.tariff_check.specs.Common.{LineAfterDefault, MeasureZero, Minute, MonthDay, NoCommonMeasure}
+use Rattle.tariff_check.specs.Common.{NoDefaultInitial, NoDefaultRate, NoStep, Rounding, StepZero, Time, TooManyCells}
+use Rattle.tariff_check.specs.Common.{TooManyCuts, TooManyLines, Tree, UnknownNumber, choices, conditions_of}
 use Rattle.tariff_check.specs.{Cuts.{count_of, most_cuts}, Lines.{is_duplicate, is_one_too_many, names_unknown}}
 use Rattle.tariff_check.specs.Lines.{first_line, has_bad_date, has_great_amount, has_measure_zero, is_after_default}
-use Rattle.tariff_check.specs.declared.fault.CheckFault.TheVariants.{LineAfterDefault, NoDefaultInitial, NoDefaultRate}
-use Rattle.tariff_check.specs.declared.fault.CheckFault.TheVariants.{StepZero, TooManyCuts, UnknownNumber}
+use Rattle.tariff_check.specs.{Measure.{measure_of}, Parts.{initial_part, positions_of, rate_part, step_of, zones_of}}
 
 -- a fault is there if its test is true
 abbrev pub fault_if : Bool → CheckFault → Option CheckFault

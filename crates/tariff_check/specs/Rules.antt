@@ -1,11 +1,10 @@
 -- For proofs: the rules for a line and for an atom, as the code names them. Lines says what each rule is.
 use Rattle.std.specs.Prelude.{[], ℕ, ◌∷◌, Bool, List, None, Option, Some}
-use Rattle.tariff_check.specs.Common.{AmountTooBig, BadDate, CheckFault, Condition, Duplicate, MeasureZero}
-use Rattle.tariff_check.specs.{Common.{TooManyLines}, Lines.{names_unknown}, declared.atoms.AtomRule.{AtomRule}}
+use Rattle.tariff_check.specs.Common.{AmountTooBig, BadDate, CheckFault, Condition, Duplicate, LineAfterDefault}
+use Rattle.tariff_check.specs.{Common.{MeasureZero, TooManyLines, UnknownNumber}, Lines.{names_unknown}}
 use Rattle.tariff_check.specs.Lines.{LineTest, has_bad_date, has_great_amount, has_measure_zero, is_after_default}
 use Rattle.tariff_check.specs.Lines.{is_after_nothing, is_duplicate, is_one_too_many, is_undated, is_unknown}
-use Rattle.tariff_check.specs.declared.fault.CheckFault.TheVariants.{LineAfterDefault, UnknownNumber}
-use Rattle.tariff_check.specs.declared.rules.LineRule.{LineRule}
+use Rattle.tariff_check.specs.declared.{atoms.AtomRule.{AtomRule}, rules.LineRule.{LineRule}}
 use Rattle.tariff_check.specs.declared.atoms.AtomRule.TheVariants as atom
 use Rattle.tariff_check.specs.declared.rules.LineRule.TheVariants as line
 

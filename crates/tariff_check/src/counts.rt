@@ -1,8 +1,7 @@
 //! How many cuts there are.
 ghost use Rattle.std.specs.Prelude.{◌≡◌, ◌≤◌, ◌⊎◌, IfErr, IfOk, None, OnOk, Some, map, nat_lt};
-ghost use Rattle.tariff_check.specs.{Common.{NoMemory, line_of}, declared.fault.CheckFault.TheVariants.{TooManyCuts}};
-ghost use Rattle.tariff_check.specs.{Counted.{HasCounts}, Cuts.{count_of, most_cuts}, Faults.{cuts_fault, fault_if}};
-ghost use Rattle.tariff_check.specs.Stages.{cut_fault};
+ghost use Rattle.tariff_check.specs.{Common.{NoMemory, TooManyCuts, line_of}, Faults.{cuts_fault, fault_if}};
+ghost use Rattle.tariff_check.specs.{Counted.{HasCounts}, Cuts.{count_of, most_cuts}, Stages.{cut_fault}};
 
 use crate::cells::Counts;
 use crate::cuts::cut_count;

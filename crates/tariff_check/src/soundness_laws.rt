@@ -1,15 +1,17 @@
 //! What the definitions of faults and cuts mean.
-ghost use Rattle.{std.specs.List.{Contains, slice_get}, tariff_tree.specs.Tree.{RiseInNumber}};
-ghost use Rattle.std.specs.Prelude.{[], ℕ, ◌++◌, ◌<◌, ◌↔◌, ◌∷◌, ◌≡◌, ◌≤◌, All, List, None, Some, length, true};
-ghost use Rattle.tariff_check.specs.{AllFaults.{all_faults}, Kinds.{initials_of, part_of, rates_of, said_by}};
-ghost use Rattle.tariff_check.specs.{Amounts.{HasAmountsOf, IsFitInitial, initial_by}, FoundLines.{StandsAtItsLine}};
-ghost use Rattle.tariff_check.specs.{ChoiceLines.{choice_lines}, Lines.{IsFirstLine, IsNowhere, LineTest, first_line}};
-ghost use Rattle.tariff_check.specs.Common.{CheckFault, ChoiceKind, Context, Dimension, Entry, IsFromTo, IsWritable};
-ghost use Rattle.tariff_check.specs.Common.{Line, NoCommonMeasure, Tree, choice_place, initial_place, rate_place};
-ghost use Rattle.tariff_check.specs.{Cuts.{IsInOrder, all_cuts, cuts_of, with_each}, Parts.{supplement_of}};
+ghost use Rattle.std.specs.{List.{Contains, range_with_len, slice_get}, Prelude.{length, map, true}};
+ghost use Rattle.std.specs.Prelude.{[], ℕ, ◌++◌, ◌<◌, ◌↔◌, ◌∷◌, ◌≡◌, ◌≤◌, All, AllPairs, List, None, Some, filter};
+ghost use Rattle.{tariff_tree.specs.Tree.{RiseInNumber}, tariff_check.specs.Common.{rate_place}};
+ghost use Rattle.tariff_check.specs.{AllFaults.{all_faults, row_of_fault}, FoundLines.{StandsAtItsLine, lines_of_kind}};
+ghost use Rattle.tariff_check.specs.{Amounts.{HasAmountsOf, IsFitInitial, initial_by}, SoundLookups.{rate_in_force}};
+ghost use Rattle.tariff_check.specs.{ChoiceLines.{choice_lines, may_have_condition, places_of}, Faults.{faults_of}};
+ghost use Rattle.tariff_check.specs.Common.{CheckFault, ChoiceKind, ChoiceLine, Context, Dimension, Entry, IsFromTo};
+ghost use Rattle.tariff_check.specs.Common.{IsWritable, Line, NoCommonMeasure, Tree, choice_place, initial_place};
+ghost use Rattle.tariff_check.specs.Cuts.{IsInOrder, all_cuts, cuts_of, with_each};
 ghost use Rattle.tariff_check.specs.Faults.{HasNone, IsSound, fault_of, faults_before_cuts, faults_from_cuts};
-ghost use Rattle.tariff_check.specs.{Faults.{faults_of}, Measure.{IsLeastCommonMultiple, measure_of, measures_of}};
-ghost use Rattle.tariff_check.specs.Sound.{HasSoundParts};
+ghost use Rattle.tariff_check.specs.{Kinds.{initials_of, part_of, rates_of, said_by}, Sound.{HasSoundParts}};
+ghost use Rattle.tariff_check.specs.{Lines.{IsFirstLine, IsNowhere, LineTest, first_line}, Parts.{supplement_of}};
+ghost use Rattle.tariff_check.specs.Measure.{IsLeastCommonMultiple, IsMultipleOfAll, measure_of, measures_of};
 ghost use Rattle.tariff_check.specs.SoundTariff.{HasAllLines, HasFrame, IsInOnePart, sound_of, supplement_numbered};
 
 /// The law of the faults of lines: the number that is named is that of the first line that meets the test, and none is
@@ -33,12 +35,14 @@ pub fn cuts_are_in_order()
 {}
 
 /// The law of all faults: the first of them is the one that `check` answers, and there is none exactly if the tariff is
-/// sound. Each that is named is there. Each fault before those of cuts that is there is named. If there is none of
-/// them, each fault of cuts and of cells that is there is named, too. If a measure of a rate is 0, the common measure
-/// is 0, and so isn't too great.
+/// sound. They are in the order of the table of faults, each kind once. Each that is named is there. Each fault before
+/// those of cuts that is there is named. If there is none of them, each fault of cuts and of cells that is there is
+/// named, too. If a measure of a rate is 0, the common measure is 0, and so isn't too great.
 pub fn all_faults_begin_with_the_first()
     ensures first { (t : Tree) → slice_get (all_faults t.lines) 0 ≡ fault_of t }
     ensures none { (t : Tree) → (all_faults t.lines ≡ []) ↔ IsSound t }
+    ensures in_order { (lines : List Line)
+        → AllPairs (λ (above below : CheckFault). row_of_fault above < row_of_fault below) (all_faults lines) }
     ensures there { (lines : List Line)
         → All (λ (fault : CheckFault). Contains (faults_of lines) (Some fault)) (all_faults lines) }
     ensures before_cuts { (lines : List Line) (fault : CheckFault) → Contains (faults_before_cuts lines) (Some fault)
@@ -56,12 +60,15 @@ pub fn sound_tariffs_have_sound_parts()
 {}
 
 /// The law of the common measure: it is the least common multiple of the measures of the rates if these are above 0.
-/// They are in a sound tariff, and if the common measure is refused.
+/// They are in a sound tariff, and if the common measure is refused. In a sound one it is a multiple of both measures
+/// of the rate that is in force in a context.
 pub fn measures_are_least()
     ensures least { (lines : List Line) → All (λ n. 0 < n) (measures_of lines)
         → IsLeastCommonMultiple (measures_of lines) (measure_of lines) }
     ensures sound { (t : Tree) → IsSound t → All (λ n. 0 < n) (measures_of t.lines) }
     ensures refused { (t : Tree) → fault_of t ≡ Some NoCommonMeasure → All (λ n. 0 < n) (measures_of t.lines) }
+    ensures in_force { (t : Tree) (x : Context) → IsSound t
+        → let r = rate_in_force (sound_of t) x in IsMultipleOfAll (r.b ∷ r.e ∷ []) (measure_of t.lines) }
 {}
 
 /// The law of supplements: a tariff whose numbers a text can have has supplements only of the numbers 1 to 16.
@@ -100,7 +107,12 @@ pub fn sound_tariffs_are_their_parts()
 {}
 
 /// The law of choices: each choice that the lines of a tariff give stands at its line. The line at the choice's place
-/// among the lines of its kind has the number that the choice names.
+/// among the lines of its kind has the number that the choice names. No line is left out: the choices of a kind have
+/// the places 0, 1 and so on, up to how many lines of the kind there are, and all choices are in the order of the lines.
 pub fn choices_stand_at_their_lines()
-    ensures { (lines : List Line) → All (StandsAtItsLine lines) (choice_lines lines) }
+    ensures line { (lines : List Line) → All (StandsAtItsLine lines) (choice_lines lines) }
+    ensures places { (kind : ChoiceKind) (lines : List Line)
+        → places_of kind (choice_lines lines) ≡ range_with_len 0 (length (lines_of_kind kind lines)) }
+    ensures order { (lines : List Line) → map (λ (c : ChoiceLine). c.line) (choice_lines lines)
+        ≡ map (λ (l : Line). l.line) (filter (λ (l : Line). may_have_condition l.entry) lines) }
 {}
