@@ -76,6 +76,11 @@ class Edit:
         return (any(file.startswith("specs/") for file, _, _ in self.pairs)
                 or any(len(re.findall(rf"\b{name}\b", code)) > 2 for name in used))
 
+    def is_of_statements(self):
+        """Whether it changes a definition or a law's own statement alone: then it shows that another sentence isn't proved, and
+        not that a program is refused."""
+        return all(not file.startswith("src/") or re.match(r"\s+(?:ensures|requires|→)", old) for file, old, _ in self.pairs)
+
     def change(self, texts):
         """Puts the change into the texts of files, and says what is wrong with it."""
         if not self.breaks:
