@@ -36,8 +36,8 @@ pub record BeginsIn (t : Tree) (s : Setting) (c : MeterContext) (m : Meter) : Ty
   pub begins : m.taken ≡ []
   pub context : context_of s m ≡ context_at t s.constant c
 
--- a meter has a trip that was hired in a context of a meter if it has the fees and the cover with which a hiring there
--- begins
+-- a meter has a trip as if hired in a context of a meter if it has the fees and the cover with which a hiring there
+-- begins; where it was hired isn't said
 pub record WasHiredIn (t : Tree) (s : Setting) (c : MeterContext) (m : Meter) : Type 0 where
   pub trip : MeterTrip
   pub has : m.trip ≡ Some trip
@@ -49,8 +49,8 @@ abbrev pub meter_after : Setting → List Event → Meter
 meter_after s events = (run s events (opened s first_state)).next
 
 -- a context of a meter is reached under a tariff, a constant, a mode and a hold if under some offset of at most 14
--- hours a drive leads to an interval in it, of a trip that was hired in the same context without ticks and pulses; the
--- drive ends whole, so within 2^40 bytes, and has a line for each of its events
+-- hours a drive leads to an interval in it, of a trip with the fees and the cover of a hiring in the same context
+-- without ticks and pulses; the drive ends whole, so within 2^40 bytes, and has a line for each of its events
 pub record IsReached (t : Tree) (k : ℕ) (mode : Mode) (hold : ℕ) (c : MeterContext) : Type 0 where
   pub offset : ℤ
   pub drive : List ℕ
