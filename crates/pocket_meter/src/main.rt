@@ -2,9 +2,8 @@
 //! an event of each line of standard input, and prints what the display shows. docs/use/EMBEDDING.md leads through it.
 #![tactic(auto)]
 
-ghost use Rattle.{std.specs.Iterator.{IsFinite}, outside.specs.Faults.{HasCause}};
+ghost use Rattle.{std.specs.Iterator.{IsFinite}, outside.specs.Faults.{HasCause}, meter_texts.specs.MadeOf.{AreMadeOf}};
 ghost use Rattle.std.specs.{Option.{ForSome}, Prelude.{[], ◌*◌, ◌++◌, ◌+◌, ◌<◌, ◌≡◌, ◌≤◌, All, IfSome, OnOk, length}};
-ghost use Rattle.meter_texts.specs.MadeOf.{AreMadeOf};
 ghost use Rattle.pocket_meter.specs.Common.{IsSettingOf, IsTimely, Setting, first_state, opened, run, shown_texts};
 ghost use Rattle.pocket_meter.specs.Lines as spec;
 

@@ -1,16 +1,16 @@
 //! What the definitions of faults and cuts mean.
 ghost use Rattle.std.specs.{List.{Contains, range_with_len, slice_get}, Prelude.{length, map, true}};
 ghost use Rattle.std.specs.Prelude.{[], ℕ, ◌++◌, ◌<◌, ◌↔◌, ◌∷◌, ◌≡◌, ◌≤◌, All, AllPairs, List, None, Some, filter};
-ghost use Rattle.{tariff_tree.specs.Tree.{RiseInNumber}, tariff_check.specs.Common.{rate_place}};
+ghost use Rattle.{tariff_tree.specs.Tree.{RiseInNumber}, tariff_check.specs.{Common.{rate_place}, Faults.{faults_of}}};
 ghost use Rattle.tariff_check.specs.{AllFaults.{all_faults, row_of_fault}, FoundLines.{StandsAtItsLine, lines_of_kind}};
 ghost use Rattle.tariff_check.specs.{Amounts.{HasAmountsOf, IsFitInitial, initial_by}, SoundLookups.{rate_in_force}};
-ghost use Rattle.tariff_check.specs.{ChoiceLines.{choice_lines, may_have_condition, places_of}, Faults.{faults_of}};
+ghost use Rattle.tariff_check.specs.{ChoiceLines.{choice_lines, may_have_condition, places_of}, Parts.{supplement_of}};
 ghost use Rattle.tariff_check.specs.Common.{CheckFault, ChoiceKind, ChoiceLine, Context, Dimension, Entry, IsFromTo};
 ghost use Rattle.tariff_check.specs.Common.{IsWritable, Line, NoCommonMeasure, Tree, choice_place, initial_place};
 ghost use Rattle.tariff_check.specs.Cuts.{IsInOrder, all_cuts, cuts_of, with_each};
 ghost use Rattle.tariff_check.specs.Faults.{HasNone, IsSound, fault_of, faults_before_cuts, faults_from_cuts};
-ghost use Rattle.tariff_check.specs.{Kinds.{initials_of, part_of, rates_of, said_by}, Sound.{HasSoundParts}};
-ghost use Rattle.tariff_check.specs.{Lines.{IsFirstLine, IsNowhere, LineTest, first_line}, Parts.{supplement_of}};
+ghost use Rattle.tariff_check.specs.Kinds.{initials_of, part_of, rates_of, said_by};
+ghost use Rattle.tariff_check.specs.{Lines.{IsFirstLine, IsNowhere, LineTest, first_line}, Sound.{HasSoundParts}};
 ghost use Rattle.tariff_check.specs.Measure.{IsLeastCommonMultiple, IsMultipleOfAll, measure_of, measures_of};
 ghost use Rattle.tariff_check.specs.SoundTariff.{HasAllLines, HasFrame, IsInOnePart, sound_of, supplement_numbered};
 
