@@ -1,5 +1,5 @@
 //! Reads the tariff of a word.
-ghost use Rattle.std.specs.Prelude.{[], ℕ, ◌<◌, ◌≡◌, ◌≢◌, ◌≤◌, Err, IfOk, Ok, OnOk, length, vec_len};
+ghost use Rattle.std.specs.Prelude.{[], ℕ, ◌<◌, ◌≡◌, ◌≢◌, ◌≤◌, ◌⊎◌, Err, IfOk, Ok, OnOk, length, vec_len};
 ghost use Rattle.call_ends.specs.{Common.{LeavesOthers, Rose, tree_of}, Tariffs.{IsOfLines, tariff_in}};
 ghost use Rattle.call_ends.specs.Ending.{unsound_for};
 
@@ -33,7 +33,8 @@ pub enum TextFault {
 /// How many bytes a tariff has at most.
 const MOST: usize = 65_536;
 
-/// Reads what is left of a word's file, to its end. `Refused`: it has more than 65,536 bytes.
+/// Reads what is left of a word's file, to its end. `Refused`: it has more than 65,536 bytes. `NoMemory`: nothing was
+/// read.
 pub fn text_of_word<F: Files>(
     alloc: Global,
     files: &mut F,
@@ -46,6 +47,7 @@ pub fn text_of_word<F: Files>(
         → tariff_in (F.rest files.old word) ≡ Err why }
     ensures long { (why : Refusal) → F.tells → result ≡ Err (TextFault.Refused why)
         → (why ≡ Refusal.TooLong) × (65536 < length (F.rest files.old word)) }
+    ensures memory { result ≡ Err TextFault.NoMemory → files.new ≡ files.old }
     ensures read_fault { result ≡ Err TextFault.ReadFault → Rose (F.faults files.old word) (F.faults files.new word) }
     ensures others { LeavesOthers F.rest word files.old files.new }
     ensures counts { result ≢ Err TextFault.ReadFault
@@ -88,7 +90,8 @@ pub fn tariff_of_text(alloc: Global, text: &[u8]) -> Result<Checked, TextFault>
     }
 }
 
-/// Reads the sound tariff of a word, to the end of its file if it is accepted.
+/// Reads the sound tariff of a word, to the end of its file if it is accepted. `NoMemory` comes only if nothing was read,
+/// or if the lines are those of a tariff, sound or not.
 pub fn read_tariff<F: Files>(
     alloc: Global,
     files: &mut F,
@@ -98,6 +101,8 @@ pub fn read_tariff<F: Files>(
     ensures ended { F.tells → OnOk result (F.rest files.new word ≡ []) }
     ensures refused { (why : Refusal) → F.tells → result ≡ Err (TextFault.Refused why)
         → tariff_in (F.rest files.old word) ≡ Err why }
+    ensures memory { F.tells → result ≡ Err TextFault.NoMemory
+        → (files.new ≡ files.old) ⊎ IsOfLines (F.rest files.old word) }
     ensures read_fault { result ≡ Err TextFault.ReadFault → Rose (F.faults files.old word) (F.faults files.new word) }
     ensures others { LeavesOthers F.rest word files.old files.new }
     ensures counts { result ≢ Err TextFault.ReadFault

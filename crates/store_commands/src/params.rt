@@ -22,7 +22,7 @@ pub enum ParamsFault {
 /// How many bytes a parameter text has at most.
 const MOST: usize = 65_536;
 
-/// Reads the parameters of a word, to the end of its file if they are accepted.
+/// Reads the parameters of a word, to the end of its file if they are accepted. `NoMemory`: nothing was read.
 #[tactic(auto, unfolding(seal_record::specs::Reading::params_read))]
 pub fn read_parameters<F: Files>(
     alloc: Global,
@@ -34,6 +34,7 @@ pub fn read_parameters<F: Files>(
     ensures ended { F.tells → OnOk result (F.rest files.new word ≡ []) }
     ensures refused { (why : ParamFault) → F.tells → result ≡ Err (ParamsFault.Refused why)
         → params_read (F.rest files.old word) ≡ Err why }
+    ensures memory { result ≡ Err ParamsFault.NoMemory → files.new ≡ files.old }
     ensures read_fault { result ≡ Err ParamsFault.ReadFault → Rose (F.faults files.old word) (F.faults files.new word) }
     ensures others { LeavesOthers F.rest word files.old files.new }
     ensures counts { result ≢ Err ParamsFault.ReadFault
