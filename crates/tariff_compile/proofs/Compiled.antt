@@ -5,17 +5,18 @@ use Rattle.std.proofs.{Math.Nat.{mul-pos, mul_assoc}, lemmas.Option.{slice_get-g
 use Rattle.std.proofs.lemmas.{Bool.{lt-ltb}, List.FromFn.{get_or-map-range_with_len, length-map-range_with_len}}
 use Rattle.std.proofs.lemmas.List.{get_or-map, get_or_default, length-map, Elements.{All-map, All-weaker}}
 use Rattle.{taxi_units.specs.Counted.{IsElement}, interval_clock.specs.Calendar.{IsDateOf}}
-use Rattle.{tariff_tree.specs.Writable.{IsFromTo}, tariff_check.specs.Parts.{has_holidays, initials_of, rates_of}}
-use Rattle.tariff_check.specs.{Cells.{cells_of, day_kinds}, Cuts.{count_of, cuts_of}, Measure.{measure_of}}
+use Rattle.{tariff_tree.specs.Writable.{IsFromTo}, tariff_check.specs.Parts.{has_holidays, initials_of}}
+use Rattle.tariff_check.specs.{Cells.{cells_of, day_kinds}, Cuts.{count_of, cuts_of}}
 use Rattle.tariff_check.specs.declared.fault.Dimension.TheVariants.{Distance, Minute, MonthDay, Time}
 use Rattle.tariff_check.proofs.Laws.{lines_that_hold_are_there-initial, lines_that_hold_are_there-rate}
 use Rattle.tariff_check.proofs.Laws.{sound_tariffs_have_sound_parts-parts, supplements_are_numbered_to_16}
-use Rattle.{tariff_calendar.specs.Lists.{is_holiday, pulses_for}, tariff_compile.specs.Common.{supplement_of, zones_of}}
+use Rattle.tariff_calendar.specs.Lists.{is_holiday, pulses_for}
 use Rattle.tariff_calendar.proofs.Laws.{holidays_are_dates-dates, holidays_are_dates-some, lists_are_ordered-hiring}
 use Rattle.tariff_compile.specs.Cells.{IsBelow, IsNarrow, bands_at, bands_of, cell_count, cell_number, sizes_of}
 use Rattle.tariff_compile.specs.Common.{Bands, CellLines, Context, CutLists, HasSoundParts, IsInRange, IsInRangeOf}
 use Rattle.tariff_compile.specs.Common.{IsSound, IsSoundRate, IsWritable, Rate, RateNumbers, Supplement, Tree, Weights}
-use Rattle.tariff_compile.specs.Common.{at_hiring, count_at_most, has_day, has_days, lists_of, positions_of}
+use Rattle.tariff_compile.specs.Common.{at_hiring, count_at_most, has_day, has_days, lists_of, measure_of, positions_of}
+use Rattle.tariff_compile.specs.Common.{rates_of, supplement_of, zones_of}
 use Rattle.tariff_compile.specs.Tables.{AreFit, HasWeightsOf, IsCompiled, IsFit, IsInRangeFor, IsTablesOf, TableParts}
 use Rattle.tariff_compile.specs.Tables.{all_cells, all_weights, context_of_cell, lines_at, lines_in, no_lines, rate_by}
 use Rattle.tariff_compile.{specs.Tables.{sizes_for, sizes_in, tables_of, weights_of}, proofs.Fits.{weights_of-fit}}

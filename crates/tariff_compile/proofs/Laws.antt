@@ -5,6 +5,7 @@ use Rattle.tariff_compile.{specs.Common.{Bands}, proofs.CellNumbers.{cell_number
 use Rattle.tariff_compile.proofs.CellNumbers.{bands_of-cell_number, bands_of-place, cell_number-bands_of}
 pub use Rattle.tariff_compile.proofs.Compiled.{lines_in_is as tables_equal_the_tree-lines, tables_fit as tables_are_fit}
 pub use Rattle.tariff_compile.proofs.EachKind.{fees_in_is as tables_equal_the_tree-fees}
+pub use Rattle.tariff_compile.proofs.OwnWeights.{weights_of_rate as weights_are_those_of_their_rates-rate}
 
 pub cells_are_numbered_in_order-number : (sizes bands : Bands) → IsBelow sizes bands
     → (cell_number sizes bands < cell_count sizes) × (bands_of sizes (cell_number sizes bands) ≡ bands)

@@ -20,6 +20,8 @@ pub mod Laws
 mod LowCuts
 -- how marks are made: one context after another, and the first mark that a place has
 mod Marked
+-- the weights of a rate are its own
+mod OwnWeights
 -- the rows of sections, one after another
 mod RowOrder
 -- what is the same in contexts, and what has one answer in them

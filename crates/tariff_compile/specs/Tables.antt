@@ -1,18 +1,18 @@
 -- Rules: the tables of a tariff under a constant, and what they are looked up for.
-use Rattle.{std.specs.{List.{range_with_len, slice_get}, Option.{unwrap_or}}, tariff_check.specs.Amounts.{initial_with}}
+use Rattle.std.specs.{List.{range_with_len, slice_get}, Option.{unwrap_or}}
 use Rattle.std.specs.Prelude.{ℕ, ◌*◌, ◌+◌, ◌/◌, ◌<◌, ◌^◌, ◌∷◌, ◌≡◌, ◌≤◌, List, Option, Some, get_or, if◌then◌else◌, map}
-use Rattle.{taxi_units.specs.Money.{largest_display_step}, tariff_check.specs.DisplayStep.{display_step}}
+use Rattle.{taxi_units.specs.Money.{largest_display_step}, tariff_check.specs.SoundTariff.{SoundTariff, values_of}}
 use Rattle.drive_modes.specs.{Constant.{greatest_constant, least_constant}, declared.meterage.Rounding.{Rounding}}
 use Rattle.tariff_tree.specs.{Meaning.{choice_place, initial_place, minimum_place, rate_place}, Writable.{IsFromTo}}
-use Rattle.tariff_check.specs.{Cells.{day_kinds}, Measure.{measure_of}}
-use Rattle.tariff_check.specs.{Kinds.{is_asked_amid, part_of}, SoundTariff.{SoundTariff, sound_of, values_of}}
-use Rattle.tariff_check.specs.{Parts.{initials_of, minimums_of, rates_of}, SoundLookups.{place_in_force}}
+use Rattle.tariff_check.specs.{Amounts.{initial_with}, Kinds.{is_asked_amid, part_of}, Parts.{initials_of, minimums_of}}
+use Rattle.tariff_check.specs.{Cells.{day_kinds}, DisplayStep.{display_step}, SoundLookups.{place_in_force}}
 use Rattle.tariff_check.specs.declared.choice.ChoiceKind.{ChoiceKind, TheVariants.{Initial, Minimum}}
 use Rattle.tariff_compile.specs.Cells.{bands_at, bands_of, cell_count, cell_number, context_in, sizes_of}
 use Rattle.tariff_compile.specs.Common.{Bands, CellLines, Context, CutLists, InitialNumbers, IsInRange, IsSound}
 use Rattle.tariff_compile.specs.Common.{IsWritable, Rate, RateNumbers, Supplement, Tree, Weights, at_hiring, has_days}
-use Rattle.tariff_compile.specs.Common.{lists_of, place_number, positions_of, supplement_of, zones_of}
-use Rattle.tariff_compile.specs.declared.tables.Tables.TheInside.{Inside}
+use Rattle.tariff_compile.specs.Common.{lists_of, measure_of, place_number, positions_of, rates_of, sound_of}
+use Rattle.tariff_compile.specs.{Common.{supplement_of, zones_of}, declared.tables.Tables.TheInside.{Inside}}
+use Rattle.drive_modes.specs.Speed as speeds
 use Rattle.tariff_check.specs.declared.values.Initial as fees
 
 -- tables have a tariff's cuts, the weights of its rates, its initial hire fees, minimum fares, lines of cells and
@@ -56,6 +56,10 @@ parts_of t =
 -- smallest unit of money
 abbrev pub weights_of : (k common : ℕ) → RateNumbers → Weights
 weights_of k common r = record { per_pulse = 10000 * r.a * (common / r.b); per_tick = r.c * k * (common / r.e) }
+
+-- the rate that some numbers say, of which drive_modes tells the weights
+abbrev pub own_rate : RateNumbers → speeds.Rate
+own_rate r = record { a = r.a; b = r.b; c = r.c; e = r.e }
 
 -- the weights in the tables of a tariff are those of each of its rates, in order
 abbrev pub all_weights : Tree → (k : ℕ) → List Weights

@@ -17,5 +17,6 @@ pub use cells::CellLines;
 pub use parts::{Bands, Lasting};
 pub use table_laws::{
     cells_are_numbered_in_order, rows_are_in_order, tables_are_fit, tables_equal_the_tree,
+    weights_are_those_of_their_rates,
 };
 pub use tables::{Tables, compile};

@@ -1,11 +1,13 @@
 //! Why a look-up in the tables is enough.
-ghost use Rattle.std.specs.{List.{slice_get}, Prelude.{ℕ, ◌<◌, ◌≡◌, Some, length}};
-ghost use Rattle.tariff_check.specs.{Amounts.{HasAmountsOf}, Cells.{cells_of}};
+ghost use Rattle.std.specs.{List.{slice_get}, Prelude.{[], ℕ, ◌*◌, ◌<◌, ◌∷◌, ◌≡◌, Some, length}};
+ghost use Rattle.{drive_modes.specs.Speed.{AreWeightsOf}, tariff_check.specs.SoundLookups.{rate_in_force}};
+ghost use Rattle.tariff_check.specs.{Amounts.{HasAmountsOf}, Cells.{cells_of}, Measure.{IsMultipleOfAll}};
 ghost use Rattle.tariff_compile.specs.Cells.{IsBefore, IsBelow, bands_of, cell_count, cell_number, places_of};
-ghost use Rattle.tariff_compile.specs.Common.{Bands, CellLines, Context, IsInRangeOf, IsSound, IsWritable, Tree};
-ghost use Rattle.tariff_compile.specs.{Common.{initial_by}, Rows.{all_rows, row_count, row_text}};
+ghost use Rattle.tariff_compile.specs.Common.{Bands, CellLines, Context, IsInRangeOf, IsSound, IsWritable, RateNumbers};
+ghost use Rattle.tariff_compile.specs.{Common.{Tree, initial_by, measure_of, sound_of}, Tables.{tables_of, weights_of}};
+ghost use Rattle.tariff_compile.specs.Rows.{all_rows, row_count, row_text};
 ghost use Rattle.tariff_compile.specs.Tables.{HasLinesOf, HasWeightsOf, IsCompiled, IsFit, IsInRangeFor, IsTablesOf};
-ghost use Rattle.tariff_compile.specs.Tables.{TableParts, cell_of, fees_in, lines_at, lines_in, rate_by, tables_of};
+ghost use Rattle.tariff_compile.specs.Tables.{TableParts, cell_of, fees_in, lines_at, lines_in, own_rate, rate_by};
 
 /// The law of tables, for each sound tariff, constant and context that a trip may have: the context's cell is there,
 /// and its lines are those that hold first by the tariff's tree. What is looked up is what those lines say: weights,
@@ -19,6 +21,18 @@ pub fn tables_equal_the_tree()
         → lines_in tables x ≡ lines_at t x }
     ensures fees { (t : Tree) (tables : TableParts) (x : Context) → IsTablesOf t tables → IsInRangeFor tables x
         → fees_in tables x ≡ initial_by t x }
+{}
+
+/// The law of weights: if the common measure is a multiple of both measures of a rate, the rate's weights are its own:
+/// k pulses cost what a kilometre costs, and an interval costs what a tenth of a second costs. In a sound tariff it is one
+/// of each rate's measures, so the weights in force in a context are those of the rate in force in it.
+pub fn weights_are_those_of_their_rates()
+    ensures own { (k common : ℕ) (r : RateNumbers) → IsMultipleOfAll (r.b ∷ r.e ∷ []) common
+        → AreWeightsOf (own_rate r) k (k * common) (weights_of k common r) }
+    ensures rate { (t : Tree) (k : ℕ) (x : Context) → IsSound t
+        → rate_by t k x ≡ weights_of k (measure_of t.lines) (rate_in_force (sound_of t) x) }
+    ensures in_force { (t : Tree) (k : ℕ) (x : Context) → IsSound t
+        → AreWeightsOf (own_rate (rate_in_force (sound_of t) x)) k (k * measure_of t.lines) (rate_by t k x) }
 {}
 
 /// The law of cells: there are as many as `check` says, each place has one number and each number one
