@@ -5,16 +5,17 @@ use Rattle.std.proofs.Common.{[], ℕ, ◌*◌, ◌++◌, ◌+◌, ◌<◌, ◌�
 use Rattle.std.proofs.{Common.{inl, inr, length, map, refl, subst, suc, sum, sym, true, zero}, lemmas.List.{length-map}}
 use Rattle.std.proofs.lemmas.{Bool.Decides.{eqb_tells}, List.{Elements.{All-weaker}, Sums.{sum-map, sum_by-append}}}
 use Rattle.{tariff_check.specs.Parts.{rates_of}, meter_model.specs.Charge.{distance_charge, time_charge}}
-use Rattle.verify_bench.{specs.Amounts.{amounts_among}, proofs.AmountSums.{all_among, sum_head}}
+use Rattle.verify_bench.specs.Amounts.{amounts_among}
 use Rattle.verify_bench.specs.Common.{Both, Choice, Context, Distance, Double, Event, Group, InHired, InStopped}
 use Rattle.verify_bench.specs.Common.{IsSound, IsSupplementNumber, Mode, Part, RateNumbers, Rest, Setting, Single}
 use Rattle.verify_bench.specs.Common.{SoundTariff, Sums, Taken, Time, Tree, Way, amount_in, amounts_of, charge_by}
 use Rattle.verify_bench.specs.Common.{charge_in, lines_of, place_in_force, pulses_in, sound_of, supplement_numbered}
-use Rattle.verify_bench.{specs.Common.{ticks_in, times}, proofs.DriveTrips.{explained_are_of_trips}}
+use Rattle.verify_bench.specs.{Common.{ticks_in, times}, Wholes.{pulses_dropped, pulses_stopped, ticks_stopped}}
 use Rattle.verify_bench.specs.Groups.{group_if, groups_at, groups_from, is_charged_by, is_in_stopped, is_rest}
 use Rattle.verify_bench.specs.Groups.{is_same_way, rate_place_of, rate_sums, sums_of, way_by, way_of}
 use Rattle.verify_bench.specs.TripExplanations.{Explanation, explanations_of, taken_if, taken_of}
-use Rattle.verify_bench.specs.Wholes.{ArePartsTheWhole, IsOfTrip, MakesReceipt, charge_in_way}
+use Rattle.verify_bench.specs.Wholes.{ArePartsTheWhole, HasUncharged, IsOfTrip, MakesReceipt, charge_in_way}
+use Rattle.verify_bench.proofs.{AmountSums.{all_among, sum_head}, DriveTrips.{explained_are_of_trips}}
 use Rattle.meter_model.specs.Trip as model
 use Rattle.tariff_check.proofs.Laws as check
 
@@ -322,6 +323,49 @@ all_add_up t s events sound parts =
 pub all_make : (s : Setting) (events : List Event) → All (MakesReceipt s) (explanations_of s events)
 all_make s events =
     All-weaker (IsOfTrip s events) (MakesReceipt s) (one_makes s events) (explanations_of s events)
+    (explained_are_of_trips s events)
+
+-- what a trip was not charged for, part by part
+same_amounts : (f : Part → ℕ) (test : Part → Bool) (own : Part → ℕ)
+    → ((part : Part) → cond (test part) (f part) 0 ≡ own part) → (parts : List Part)
+    → amount f test parts ≡ sum (map own parts)
+same_amounts f test own same [] = refl
+same_amounts f test own same (part ∷ parts) =
+    amount_head f test part parts
+    ∙ (two_more (same part) (same_amounts f test own same parts) ∙ sym (sum_head (own part) (map own parts)))
+
+own_pulses : (part : Part) → cond (is_in_stopped part) (pulses_in part) 0 ≡ pulses_stopped part
+own_pulses (InHired p x) = refl
+own_pulses (InStopped p) = refl
+own_pulses (Rest p) = refl
+
+own_ticks : (part : Part) → cond (is_in_stopped part) (ticks_in part) 0 ≡ ticks_stopped part
+own_ticks (InHired p x) = refl
+own_ticks (InStopped p) = refl
+own_ticks (Rest p) = refl
+
+own_rest : (part : Part) → cond (is_rest part) (pulses_in part) 0 ≡ pulses_dropped part
+own_rest (InHired p x) = refl
+own_rest (InStopped p) = refl
+own_rest (Rest p) = refl
+
+one_has_uncharged : (s : Setting) (events : List Event) (e : Explanation) → IsOfTrip s events e
+    → HasUncharged s events e
+one_has_uncharged s events e is_of =
+    let parts = is_of.trip.parts in
+    let stopped = ap (λ (e : Explanation). e.stopped) is_of.is in
+    record {
+      of = is_of;
+      pulses = ap (λ (w : Sums). w.pulses) stopped ∙ same_amounts pulses_in is_in_stopped pulses_stopped own_pulses parts;
+      ticks = ap (λ (w : Sums). w.ticks) stopped ∙ same_amounts ticks_in is_in_stopped ticks_stopped own_ticks parts;
+      charge = ap (λ (w : Sums). w.charge) stopped ∙ free_parts (charge_in s) is_in_stopped (stopped_free s) parts;
+      dropped = ap (λ (e : Explanation). e.dropped) is_of.is ∙ same_amounts pulses_in is_rest pulses_dropped own_rest parts;
+    }
+
+pub all_have_uncharged : (s : Setting) (events : List Event)
+    → All (HasUncharged s events) (explanations_of s events)
+all_have_uncharged s events =
+    All-weaker (IsOfTrip s events) (HasUncharged s events) (one_has_uncharged s events) (explanations_of s events)
     (explained_are_of_trips s events)
 
 ways_by : (b : Bool) (k common : ℕ) (r : RateNumbers) (p : ℕ) → (if b then time_charge k common r

@@ -1,12 +1,13 @@
 -- What a drive should come to, by its explanations.
 use Rattle.std.proofs.Common.{[], ℕ, ◌++◌, ◌+◌, ◌∙◌, ◌∷◌, ◌≡◌, List, None, Option, Some, ap, append_assoc, arith, map}
 use Rattle.std.proofs.{Common.{refl, sum, sym}, lemmas.{List.{map-append}, Simd.{map-map}}}
-use Rattle.verify_bench.specs.{Bench.{GoesThroughEvent}, ExpectedReceipts.{hirings_from, hirings_in, ticks_at}}
+use Rattle.verify_bench.specs.{Bench.{GoesThroughEvent}, TripExplanations.{explanations_of, hired_at, trip_at}}
 use Rattle.verify_bench.{specs.BenchProgress.{Carries, IsAmidExpected}, proofs.GatheredSums.{sum_more}}
 use Rattle.verify_bench.specs.Common.{Act, BenchMeter, Context, Event, Expected, Explained, ForHire, Hired, Meter}
-use Rattle.verify_bench.specs.Common.{MeterTrip, Off, Operating, Part, Rest, Setting, Stopped, ended, left_in, step}
-use Rattle.verify_bench.specs.{Common.{ticks_in, ticks_so_far}, TripExplanations.{hired_at, trip_at}}
-use Rattle.verify_bench.specs.{Receipts.{receipts_in}, Shortened.{short_of}}
+use Rattle.verify_bench.specs.Common.{MeterTrip, Off, Operating, Part, Rest, Setting, Stopped, context_now, ended}
+use Rattle.verify_bench.specs.Common.{first_state, left_in, opened, step, ticks_in, ticks_so_far}
+use Rattle.verify_bench.specs.{ExpectedReceipts.{expected_of, hirings_from, hirings_in, ticks_at}, Shortened.{short_of}}
+use Rattle.verify_bench.specs.Receipts.{receipts_in}
 use Rattle.verify_bench.specs.TripExplanations.{explanation, explanation_of, explanations_from, explanations_in}
 use Rattle.taxi_units.specs.declared.event.Event.TheVariants as events
 
@@ -59,6 +60,11 @@ short_from s (event ∷ events) m hired =
     ∙ (ap (λ (list : List Expected). list ++ map short_of others) (short_event s event hired m acts)
     ∙ ap (λ (list : List Expected). hirings_in (ticks_at s event m) acts ++ list)
     (short_from s events next (hired_at s event m hired)))
+
+pub expected_are_short : (s : Setting) (events : List Event)
+    → expected_of s events ≡ map short_of (explanations_of s events)
+expected_are_short s events =
+    sym (short_from s events (opened s first_state) (context_now s (opened s first_state)))
 
 -- events that are carried out from nothing found
 pub carried_short : (s : Setting) (all : List Expected) (events left : List Event) (old new : BenchMeter)

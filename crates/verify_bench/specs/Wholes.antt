@@ -3,12 +3,12 @@ use Rattle.{std.specs.{List.{slice_get}, Prelude.{true}}, drive_modes.specs.Dist
 use Rattle.std.specs.Prelude.{ℕ, ◌*◌, ◌++◌, ◌+◌, ◌<◌, ◌↔◌, ◌∷◌, ◌≡◌, ◌⊎◌, All, Bool, List, None, Some, filter, map, sum}
 use Rattle.{drive_modes.specs.Fare.{steps_above}, tariff_check.specs.Parts.{InitialNumbers}}
 use Rattle.meter_model.specs.{Charge.{distance_charge, time_charge}, Setting.{rounding_of}, Trip.{fees_of}}
-use Rattle.verify_bench.specs.{ClosedTrips.{IsClosedTrip, TripOf, closing_meter, hiring_meter}, Common.{unit_of}}
+use Rattle.verify_bench.specs.{ClosedTrips.{IsClosedTrip, TripOf, closing_meter, hiring_meter}, Receipts.{receipts_in}}
 use Rattle.verify_bench.specs.Common.{Act, Both, Choice, Context, Distance, Event, Group, HiringFees, InHired}
-use Rattle.verify_bench.specs.Common.{IsSupplementNumber, IsWritable, Kind, MeterTrip, Part, RateNumbers, Receipt}
-use Rattle.verify_bench.specs.Common.{Setting, Taken, Time, Tree, Way, at_hiring, context_now, fees_in_force}
-use Rattle.verify_bench.specs.Common.{place_in_force, pulses_in, receipt_of, shown_fare, sound_of, step, ticks_in}
-use Rattle.verify_bench.specs.{Groups.{way_by}, Receipts.{receipts_in}, TripExplanations.{Explanation, explanation}}
+use Rattle.verify_bench.specs.Common.{InStopped, IsSupplementNumber, IsWritable, Kind, MeterTrip, Part, RateNumbers}
+use Rattle.verify_bench.specs.Common.{Receipt, Rest, Setting, Taken, Time, Tree, Way, at_hiring, context_now}
+use Rattle.verify_bench.specs.Common.{fees_in_force, place_in_force, pulses_in, receipt_of, shown_fare, sound_of, step}
+use Rattle.verify_bench.specs.{Common.{ticks_in, unit_of}, Groups.{way_by}, TripExplanations.{Explanation, explanation}}
 
 -- an interval of p pulses is charged in a way by a rate what its distance costs, what its time costs, or both
 abbrev pub charge_in_way : (k common : ℕ) → RateNumbers → (p : ℕ) → Way → ℕ
@@ -123,3 +123,27 @@ pub record IsGroupOf (s : Setting) (parts : List Part) (group : Group) : Type 0 
 pub record HasGroups (s : Setting) (events : List Event) (e : Explanation) : Type 0 where
   pub of : IsOfTrip s events e
   pub groups : All (IsGroupOf s of.trip.parts) e.groups
+
+-- the pulses of a part in Stopped are its own if it is an interval that ended there, and 0 if it is another part
+abbrev pub pulses_stopped : Part → ℕ
+pulses_stopped (InStopped p) = p
+pulses_stopped part = 0
+
+-- a part counts one tick in Stopped if it is an interval that ended there, and none if it is another part
+abbrev pub ticks_stopped : Part → ℕ
+ticks_stopped (InStopped p) = 1
+ticks_stopped part = 0
+
+-- the pulses that a supply drop left in an unfinished part are its own, and 0 if it is another part
+abbrev pub pulses_dropped : Part → ℕ
+pulses_dropped (Rest p) = p
+pulses_dropped part = 0
+
+-- an explanation has what its trip was not charged for if the sums in Stopped are those of the trip's intervals there,
+-- which cost nothing, and its dropped pulses are those of the trip's unfinished intervals
+pub record HasUncharged (s : Setting) (events : List Event) (e : Explanation) : Type 0 where
+  pub of : IsOfTrip s events e
+  pub pulses : e.stopped.pulses ≡ sum (map pulses_stopped of.trip.parts)
+  pub ticks : e.stopped.ticks ≡ sum (map ticks_stopped of.trip.parts)
+  pub charge : e.stopped.charge ≡ 0
+  pub dropped : e.dropped ≡ sum (map pulses_dropped of.trip.parts)
