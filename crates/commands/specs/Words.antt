@@ -3,9 +3,9 @@ use Rattle.std.specs.{Option.{option_map}, Prelude.{nat_le, nat_lt}, Str.Parse.{
 use Rattle.std.specs.Prelude.{[], ℕ, ◌&&◌, ◌==◌, ◌^◌, ◌∷◌, List, None, Option, Some, codes, if◌then◌else◌, length}
 use Rattle.{taxi_units.specs.{Number.{figure_in}, Words.{is_word}}, store_commands.specs.Years.{years_of}}
 use Rattle.{drive_modes.specs.Constant.{greatest_constant, least_constant}, shift_book.specs.Reading.{driver_of}}
-use Rattle.commands.specs.{Common.{digits_at_front}, declared.words.Row.{Row, TheVariants.{Totals}}}
+use Rattle.commands.specs.{Common.{digits_at_front}, declared.words.Row.{Row, TheVariants.{Tables, Totals}}}
 use Rattle.commands.specs.declared.words.Row.TheVariants.{Bench, Check, Compare, Explain, Fare, Faults, Form, Gen}
-use Rattle.commands.specs.declared.words.Row.TheVariants.{Lines, Mark, Offsets, Port, Run, Seal, Sealed, Shifts, Tables}
+use Rattle.commands.specs.declared.words.Row.TheVariants.{Lines, Mark, Offsets, Port, Rates, Run, Seal, Sealed, Shifts}
 
 -- a word is a constant if it is a number of at most 6 digits and of 500 to 200,000, and else none; `figure_in` gives
 -- the number of digits in a width and a range, as the law figures_are_read_by_their_digits of taxi_units says
@@ -52,8 +52,8 @@ two_words command last =
     else (if is_word command (codes "faults") then Some Faults else None)))))
 
 -- the row of three words is `tables TARIFF CONSTANT`, `seal TARIFF PARAMS`, `run TARIFF DRIVE`, `gen SEED N`, `mark on
--- DRIVER` or `lines TARIFF CONSTANT`; `driver_of` gives a word as a driver if it is 1 to 16 of the characters A to Z, 0
--- to 9 and -, and nothing for another word
+-- DRIVER`, `lines TARIFF CONSTANT` or `rates TARIFF CONSTANT`; `driver_of` gives a word as a driver if it is 1 to 16 of
+-- the characters A to Z, 0 to 9 and -, and nothing for another word
 abbrev pub three_words : (command middle last : List ℕ) → Option Row
 three_words command middle last =
     if is_word command (codes "tables") then option_map Tables (constant_of last)
@@ -62,7 +62,8 @@ three_words command middle last =
     else (if is_word command (codes "gen") then gen_of (seed_of middle) (trips_of last)
     else (if (is_word command (codes "mark") && is_word middle (codes "on"))
     then option_map signs_on (driver_of last)
-    else (if is_word command (codes "lines") then option_map Lines (constant_of last) else None)))))
+    else (if is_word command (codes "lines") then option_map Lines (constant_of last)
+    else (if is_word command (codes "rates") then option_map Rates (constant_of last) else None))))))
 
 -- the row of four words is `fare TARIFF DRIVE CONSTANT`, `bench TARIFF DRIVE READINGS`, `explain TARIFF DRIVE PARAMS`,
 -- `offsets RULES FROM TO` or `compare TARIFF OTHER CONSTANT`

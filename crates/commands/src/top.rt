@@ -16,6 +16,7 @@ use drive_commands::fare::fare;
 use drive_commands::generate::generate;
 use drive_commands::run::run;
 use outside::{Board, Files, STORE_SIZE};
+use rate_commands::rates::print_rates;
 use std::alloc::Global;
 use std::sync::ledger::Ledger;
 use store_commands::mark::print_mark;
@@ -59,6 +60,7 @@ fn carry_out<F: Files, B: Board<STORE_SIZE, L>, L: Ledger>(
         Row::Sealed => print_sealed(board, steps),
         Row::Form => print_form(alloc, files, board, steps),
         Row::Lines(k) => print_lines(alloc, k, files, board, steps),
+        Row::Rates(k) => print_rates(alloc, k, files, board, steps),
         Row::Explain => explain(alloc, files, board, steps),
         Row::Compare(k) => print_comparison(alloc, k, files, board, steps),
         Row::Faults => print_faults(alloc, files, board, steps),
@@ -91,6 +93,8 @@ fn carry_out<F: Files, B: Board<STORE_SIZE, L>, L: Ledger>(
 /// - `faults TARIFF`: as `check`, for a sound tariff; at 2 it prints a line of that status for each fault
 /// - `lines TARIFF CONSTANT`: for each line of a kind of which the first that holds counts, the first context of a
 ///   meter in which it counts, or that it never does
+/// - `rates TARIFF CONSTANT`: for each rate its cross-over speed, the pulses of an interval at it, and the most that
+///   mode S can charge an even speed too much; then the nearest constants under which that is at most 10 percent
 /// - `explain TARIFF DRIVE PARAMS`: why the fare of each hiring that the drive closes is what it is, on a new store
 ///   that is sealed with the tariff and the parameters
 /// - `compare TARIFF OTHER CONSTANT`: what differs first between two tariffs, and the line of each, or `SAME`
@@ -167,7 +171,7 @@ pub fn taxi<F: Files, B: Board<STORE_SIZE, L>, L: Ledger>(
 
     // The steps: one for the last line, one for each row of tables, at most 31 for offsets; 64 for an opening of the
     // store, and for each event of a drive that is run and the supply drop at its end; one for each 512 bytes that are
-    // printed of a bench, a form, faults, lines or a comparison; one for each reply, two for each byte of a shift book.
+    // printed of a bench, a form, faults, lines, rates or a comparison; one for each reply, two for each byte of a shift book.
     ensures steps { TakesSteps F.Files B.Printer (called_by words.now) files.old files.new board.old steps.old
         steps.new }
 

@@ -75,6 +75,8 @@ pub enum Row {
     Faults,
     /// `lines TARIFF CONSTANT`
     Lines(Constant),
+    /// `rates TARIFF CONSTANT`
+    Rates(Constant),
     /// `explain TARIFF DRIVE PARAMS`
     Explain,
     /// `compare TARIFF OTHER CONSTANT`
@@ -189,6 +191,8 @@ fn three_words(command: &[u8], middle: &[u8], last: &[u8]) -> Option<Row>
         mark_on(last)
     } else if is_word(command, b"lines") {
         Some(Row::Lines(constant(last)?))
+    } else if is_word(command, b"rates") {
+        Some(Row::Rates(constant(last)?))
     } else {
         None
     }

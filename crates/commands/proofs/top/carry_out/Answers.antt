@@ -39,6 +39,9 @@ returns-in-Form g c = rw c.in-Form.is (record { carries = c.print_form.ensures; 
 pub returns-in-Lines : goal.returns-in-Lines
 returns-in-Lines g c = rw c.in-Lines.is (record { carries = c.print_lines.ensures; comes = tt })
 
+pub returns-in-Rates : goal.returns-in-Rates
+returns-in-Rates g c = rw c.in-Rates.is (record { carries = c.print_rates.ensures; comes = tt })
+
 pub returns-in-Explain : goal.returns-in-Explain
 returns-in-Explain g c = rw c.in-Explain.is (record { carries = c.explain.ensures; comes = tt })
 
