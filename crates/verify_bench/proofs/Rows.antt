@@ -1,10 +1,13 @@
 -- Rows of readings, taken one by one.
-use Rattle.{std.{specs.Result.{result_ok}, proofs.Common.{length, refl}}, verify_bench.specs.RowsTaken.{IsRowFault}}
-use Rattle.std.proofs.Common.{[], ℕ, ◌++◌, ◌+◌, ◌∷◌, ◌≡◌, ◌≤◌, Err, List, None, Ok, Option, Result, Some, ap, arith}
-use Rattle.taxi_units.specs.{Reading.{◌>>=◌}, declared.decimal.NumberFault.{NumberFault}}
+use Rattle.{std.{specs.Result.{result_ok}, proofs.Common.{arith, length, refl}}, csv.specs.Reading.{Reached}}
+use Rattle.std.proofs.Common.{[], ℕ, ◌++◌, ◌+◌, ◌<◌, ◌∷◌, ◌≡◌, ◌≤◌, Err, List, None, Ok, Option, Result, Some, ap}
+use Rattle.{csv.proofs.OnLiterals.{csv_on_literals}, taxi_units.specs.declared.decimal.NumberFault.{NumberFault}}
+use Rattle.taxi_units.specs.Reading.{◌>>=◌}
 use Rattle.verify_bench.specs.Common.{BadRow, NoMemory, Reading, ReadingsFault, TooLong, decimal_read}
-use Rattle.verify_bench.specs.{ReadingStages.{reading_of_row}, Readings.{Row, bad, header, readings_limit}}
-use Rattle.verify_bench.specs.Readings.{AreFirstRows, AreGood, AreRowsOfReadings, IsBadBehind, IsReadAs, IsRowOfReading}
+use Rattle.verify_bench.specs.{ReadingStages.{reading_of_row}, RowsTaken.{IsRowFault}}
+use Rattle.verify_bench.specs.Readings.{AreFirstRows, AreGood, AreRows, AreRowsOfReadings, IsBadBehind, IsReadAs}
+use Rattle.verify_bench.specs.Readings.{IsRowOfReading, Row, bad, empty, header, readings_limit}
+use Rattle.csv.specs.declared.parser.State.TheVariants as states
 
 -- three numbers that were read, or not, as one reading
 three_said : Result ℕ NumberFault → Result ℕ NumberFault → Result ℕ NumberFault → Option Reading
@@ -100,8 +103,17 @@ bad_behind decimals (first ∷ rows) readings row good none = (readings, good, s
 
 -- the fault of a row behind the first rows of a text is that of the text
 pub fault_of_row : (decimals : ℕ) (text : List ℕ) (rows : List Row) (row : Row) (fault : ReadingsFault)
-    → length text ≤ readings_limit → AreFirstRows text (rows ++ row ∷ []) → IsRowFault decimals rows row fault
-    → IsReadAs decimals text (Err fault)
-fault_of_row decimals text rows row TooLong short first why = absurd why
-fault_of_row decimals text rows row (BadRow number) short first why = (short, rw why.0 (bad rows row first why.1))
-fault_of_row decimals text rows row NoMemory short first why = short
+    → length text ≤ readings_limit → 0 < length text → AreFirstRows text (rows ++ row ∷ [])
+    → IsRowFault decimals rows row fault → IsReadAs decimals text (Err fault)
+fault_of_row decimals text rows row TooLong short some first why = absurd why
+fault_of_row decimals text rows row (BadRow number) short some first why = (short, rw why.0 (bad rows row first why.1))
+fault_of_row decimals text rows row NoMemory short some first why = (short, some)
+
+-- a text without a byte has no rows
+pub no_rows : AreRows [] []
+unfolding csv_on_literals Reached
+no_rows = (states.StartRecord, [], (refl, refl), refl)
+
+pub none_is_bad : (decimals : ℕ) (text : List ℕ) → length text ≡ 0 → IsReadAs decimals text (Err (BadRow 1))
+none_is_bad decimals [] none = (omega arith, empty no_rows)
+none_is_bad decimals (byte ∷ text) none = absurd (omega arith)

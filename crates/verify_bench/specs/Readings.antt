@@ -46,10 +46,10 @@ pub data IsFirstBad (decimals : ℕ) (text : List ℕ) : (number : ℕ) → Type
   empty : AreRows text [] → IsFirstBad decimals text 1
 
 -- a text is read as its readings if it is within the limit and all its rows are good, as too long above the limit, and
--- as bad at its first bad row; memory may run out for any text within the limit
+-- as bad at its first bad row; memory may run out for any text within the limit that has a byte
 abbrev pub IsReadAs : (decimals : ℕ) → (text : List ℕ) → Result (List Reading) ReadingsFault → Type 0
 IsReadAs decimals text (Ok readings) =
     (length text ≤ readings_limit) × (rows : List Row) × AreRows text rows × AreGood decimals rows readings
 IsReadAs decimals text (Err TooLong) = readings_limit < length text
 IsReadAs decimals text (Err (BadRow number)) = (length text ≤ readings_limit) × IsFirstBad decimals text number
-IsReadAs decimals text (Err NoMemory) = length text ≤ readings_limit
+IsReadAs decimals text (Err NoMemory) = (length text ≤ readings_limit) × (0 < length text)

@@ -16,7 +16,7 @@ const LONGEST: usize = 1_048_576;
 ///
 /// `TooLong`: the text has more than 1,048,576 bytes. `BadRow`: with the number of the first row, counted from 1 as
 /// `csv` gives them, that is neither the header nor a reading in its place; 1 for a text without rows. `NoMemory`:
-/// memory ran out, of a text within the limit. The form is this project's own.
+/// memory ran out, of a text within the limit that has a byte. The form is this project's own.
 pub fn read_readings(
     alloc: Global,
     text: &[u8],
@@ -27,6 +27,9 @@ pub fn read_readings(
 {
     if text.len() > LONGEST {
         return Err(ReadingsFault::TooLong);
+    }
+    if text.is_empty() {
+        return Err(ReadingsFault::BadRow(1));
     }
     let reader = ReaderBuilder::new()
         .has_headers(false)

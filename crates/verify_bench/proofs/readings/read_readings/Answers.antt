@@ -1,9 +1,15 @@
-use Rattle.std.proofs.Common.{[], ℕ, ◌++◌, ◌∙◌, ◌∷◌, ◌≤◌, Bor, List, Some, arith, inl, inr, length, refl, sym}
+use Rattle.std.proofs.lemmas.Bool.{eqb-false, eqb-true}
+use Rattle.std.proofs.Common.{[], ℕ, ◌++◌, ◌∙◌, ◌∷◌, ◌<◌, ◌≤◌, Bor, List, Some, arith, inl, inr, length, refl, sym}
 use Rattle.{std.proofs.lemmas.Result.{err_from_is_err_and}, csv.specs.Reading.{Reached, default_config, strip_bom}}
 use Rattle.csv.{specs.Records.{fields_of}, proofs.ReadFacts.{rows-end, rows-more}}
-use Rattle.verify_bench.{specs.Readings.{empty, readings_limit}, proofs.Rows.{fault_of_row}}
+use Rattle.verify_bench.{specs.Readings.{empty, readings_limit}, proofs.Rows.{fault_of_row, none_is_bad}}
 use Rattle.csv.specs.declared.parser.State.TheVariants as states
 use Rattle.verify_bench.proofs.readings.read_readings.Goals as goal
+
+-- a text without a byte has no first row
+pub returns-then-is_empty-clause-err : goal.returns-then-is_empty-clause-err
+returns-then-is_empty-clause-err c =
+    none_is_bad c.args.decimals c.args.text.now (eqb-true _ 0 (sym c.is_empty.ensures ∙ c.if-is_empty.true))
 
 pub loop-row-init : goal.loop-row-init
 unfolding Reached
@@ -51,8 +57,10 @@ returns-in_err-take_row-clause-err c =
     (fields_of c.in-Ok.row) default_config states.StartRecord
     (strip_bom c.args.text.now) inv.rest inv.rows inv.config inv.source inv.reached step.0 in
     let short : length c.args.text.now ≤ readings_limit = omega arith in
+    let any = eqb-false _ 0 (sym c.is_empty.ensures ∙ c.if-is_empty.false) in
+    let some : 0 < length c.args.text.now = omega arith in
     let p = err_from_is_err_and c.from_residual.result c.from_residual.ensures.1 in
-    rw (p.1, p.2) (fault_of_row c.args.decimals c.args.text.now inv.rows (fields_of c.in-Ok.row) _ short
+    rw (p.1, p.2) (fault_of_row c.args.decimals c.args.text.now inv.rows (fields_of c.in-Ok.row) _ short some
     (c.next.new.self.rdr.state, more.0, more.2) (c.in_err-take_row.ensures.err inv.rows inv.given))
 
 -- no row came, and the text ends
