@@ -1,9 +1,8 @@
 //! Whether receipts and what they say of a seal are in their ranges.
 ghost use Rattle.std.specs.{List.{AllByRecursion}, Prelude.{◌<◌, ◌^◌, ◌↔◌, ◌≢◌, ◌≤◌, IsTrue}};
-ghost use Rattle.taxi_units.specs.{Identifier.{IsIdentifierCharacter}, declared.receipt.Kind.TheVariants.{Roam}};
-ghost use Rattle.taxi_units.specs.{Limits.{number_most}, Shown.{IsReceipt, IsStamp}};
-ghost use Rattle.drive_modes.specs.Constant.{greatest_constant, least_constant};
-ghost use Rattle.{seal_record.specs.Ranges.{IsDay, IsTaxi}, receipt_text.specs.Part.{IsDigest, IsPart}};
+ghost use Rattle.{taxi_units.specs.{Limits.{number_most}, Shown.{IsStamp}}, receipt_text.specs.Part.{IsDigest}};
+ghost use Rattle.{drive_modes.specs.Constant.{greatest_constant, least_constant}, seal_record.specs.Ranges.{IsDay}};
+ghost use Rattle.receipt_reading.specs.Common.{IsIdentifierCharacter, IsPart, IsReceipt, IsTaxi, Roam};
 
 use crate::sums::has_amounts;
 use drive_modes::{GREATEST_CONSTANT, LEAST_CONSTANT};

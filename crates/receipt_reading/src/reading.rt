@@ -1,7 +1,7 @@
 //! Receipts that are read back.
 ghost use Rattle.std.specs.Prelude.{ℕ, ◌↔◌, ◌≡◌, ◌≤◌, Some, length, take};
-ghost use Rattle.{taxi_units.specs.Shown.{IsReceipt}, receipt_text.specs.{Lines.{receipt_of}, Part.{IsPart}}};
-ghost use Rattle.receipt_reading.specs.{Common.{Gives, IsReceiptText, Part, Receipt}, Front.{IsInFront}};
+ghost use Rattle.{receipt_text.specs.Lines.{receipt_of}, receipt_reading.specs.Front.{IsInFront}};
+ghost use Rattle.receipt_reading.specs.Common.{Gives, IsPart, IsReceipt, IsReceiptText, Part, Receipt};
 ghost use Rattle.receipt_text.specs.Lines as spec;
 
 use crate::calculations::calculation_at;

@@ -47,7 +47,7 @@ time_most second small =
     let seconds = padded_most 2 2 (second % 60) (omega arith) (omega arith) (omega arith) (omega arith) in
     omega (lengths, hours, minutes, seconds)
 
-stamp_most : (stamp : Stamp) → stamp.year < 2 ^ 16 → stamp.month < 2 ^ 8 → stamp.date < 2 ^ 8 → stamp.second < 2 ^ 32
+pub stamp_most : (stamp : Stamp) → stamp.year < 2 ^ 16 → stamp.month < 2 ^ 8 → stamp.date < 2 ^ 8 → stamp.second < 2 ^ 32
     → length (stamp_text stamp) ≤ 27
 unfolding stamp_text
 stamp_most stamp hy hm hd hs =

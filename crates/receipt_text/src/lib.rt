@@ -30,7 +30,7 @@ pub use parts::SealPart;
 pub use receipts::{put_part_receipt, put_receipt};
 pub use refusals::put_refusal;
 pub use shared::{
-    push_calculation, push_course, push_fare, push_kind, push_supplements, push_total,
+    push_calculation, push_course, push_fare, push_kind, push_stamp, push_supplements, push_total,
 };
 pub use stamps::put_day;
 pub use sums::{OptionalAmounts, Sums};

@@ -1,15 +1,16 @@
 //! Lines of a receipt that other texts have too. The line that they are put into has to have room for them. Amounts
 //! have 0 to 3 decimals. Their form is this project's own.
 ghost use Rattle.std.specs.Prelude.{◌++◌, ◌+◌, ◌≡◌, ◌≤◌, length};
-ghost use Rattle.{arrayvec.specs.ArrayVec.{array_vec_len}, receipt_text.specs.Receipts.{total_text}};
+ghost use Rattle.{arrayvec.specs.ArrayVec.{array_vec_len}, receipt_text.specs.Receipts.{supplements_text, total_text}};
 ghost use Rattle.receipt_text.specs.Common.{line_size};
-ghost use Rattle.receipt_text.specs.Receipts.{calculation_text, course_text, fare_text, kind_text, supplements_text};
+ghost use Rattle.receipt_text.specs.Receipts.{calculation_text, course_text, fare_text, kind_text, stamp_text};
 
 use crate::calculations::put_calculation;
 use crate::headings::put_kind;
+use crate::stamps::put_stamp;
 use crate::sums::{put_fare, put_supplements, put_total};
 use crate::trips::put_course;
-use taxi_units::{Kind, Line, Receipt};
+use taxi_units::{Kind, Line, Receipt, Stamp};
 
 /// Appends how a hiring ended: `CLOSED`, `ABORTED` or `EXPIRED`, and nothing for roaming, which has no receipt.
 #[tactic(auto, using(crate::proofs::Widths::kind_fits))]
@@ -20,6 +21,16 @@ pub fn push_kind(line: &mut Line, kind: Kind)
     ensures most { length (kind_text kind) ≤ 7 }
 {
     put_kind(line, kind).unwrap();
+}
+
+/// Appends a local date and time as `YYYY-MM-DD HH:MM:SS`.
+pub fn push_stamp(line: &mut Line, stamp: Stamp)
+    requires { array_vec_len line.old + 27 ≤ line_size }
+    ensures text { line.new.items ≡ line.old.items ++ stamp_text stamp }
+    ensures len { array_vec_len line.new ≡ array_vec_len line.old + length (stamp_text stamp) }
+    ensures most { length (stamp_text stamp) ≤ 27 }
+{
+    put_stamp(line, &stamp).unwrap();
 }
 
 /// Appends the start, the finish, the tariff position and the distance of a trip, as on its receipt, but without the
