@@ -3,18 +3,17 @@ use Rattle.std.specs.Prelude.{if◌then◌else◌, min, nat_le}
 use Rattle.std.proofs.Common.{[], ℕ, ◌++◌, ◌+◌, ◌-◌, ◌<◌, ◌^◌, ◌∙◌, ◌∷◌, ◌≡◌, ◌≤◌, ◌⊎◌, Bool, List, None, Option, Some}
 use Rattle.std.proofs.Common.{ap, append_assoc, arith, false, inl, inr, map, refl, subst, sum, sym, true}
 use Rattle.std.proofs.lemmas.{Bool.{le-leb, lt-leb}, List.{append-nil, map-append, Elements.{filter_map-append}}}
-use Rattle.{taxi_units.specs.declared.receipt.Display.{Display}, totals_record.specs.Entries.{is_of_hiring}}
-use Rattle.{meter_model.specs.Display.{display_of, is_shown}, verify_bench.specs.TripExplanations.{taken_of, whole_of}}
-use Rattle.meter_model.specs.{Trip.{pulses_of, ticks_of, with_part}, declared.act.Act.TheVariants.{Show}}
+use Rattle.{totals_record.specs.Entries.{is_of_hiring}, meter_model.specs.Trip.{pulses_of, ticks_of}}
 use Rattle.verify_bench.specs.Bench.{AreTrips, BenchStands, HasTicks, IsHiringInRange, IsMeterInRange, Moves}
-use Rattle.verify_bench.specs.Common.{◌>>=◌, Act, BenchMeter, Context, Explained, ForHire, Group, Hired, Hiring}
-use Rattle.verify_bench.specs.Common.{InHired, Key, Kind, Meter, MeterTrip, Off, Operating, Outcome, Setting, Stopped}
-use Rattle.verify_bench.specs.Common.{Sums, Supplement, Taken, closed, context_now, context_of, counted_in, extra_added}
-use Rattle.verify_bench.specs.Common.{hirings_end, interval_begun, interval_counted, key_in, last_number, latch_refused}
-use Rattle.verify_bench.specs.Common.{pulses_in, pulses_so_far, receipt_of, roaming_checked, roaming_entered, shown}
-use Rattle.verify_bench.specs.{Common.{ticks_in, ticks_so_far, times, with_interval}, Groups.{groups_of, sums_of}}
-use Rattle.verify_bench.specs.Hirings.{IsHiringOf}
-use Rattle.verify_bench.{specs.Receipts.{receipt_in, receipts_in}, proofs.GatheredSums.{zero_plus}}
+use Rattle.verify_bench.specs.Common.{◌>>=◌, Act, BenchMeter, Context, Display, Explained, ForHire, Group, Hired}
+use Rattle.verify_bench.specs.Common.{Hiring, InHired, Key, Kind, Meter, MeterTrip, Off, Operating, Outcome, Setting}
+use Rattle.verify_bench.specs.Common.{Show, Stopped, Sums, Supplement, Taken, closed, context_now, context_of}
+use Rattle.verify_bench.specs.Common.{counted_in, display_of, extra_added, hirings_end, interval_begun}
+use Rattle.verify_bench.specs.Common.{interval_counted, is_shown, key_in, last_number, latch_refused, pulses_in}
+use Rattle.verify_bench.specs.Common.{pulses_so_far, receipt_of, roaming_checked, roaming_entered, shown, ticks_in}
+use Rattle.verify_bench.specs.{Common.{ticks_so_far, times, with_interval, with_part}, Groups.{groups_of, sums_of}}
+use Rattle.verify_bench.{specs.Hirings.{IsHiringOf}, proofs.GatheredSums.{zero_plus}}
+use Rattle.verify_bench.specs.{Receipts.{receipt_in, receipts_in}, TripExplanations.{taken_of, whole_of}}
 use Rattle.verify_bench.specs.TripExplanations.{Explanation, explanation, explanation_of, explanations_in, hired_by}
 use Rattle.taxi_units.specs.declared.event.Key.TheVariants as keys
 use Rattle.meter_model.specs.Trip as model

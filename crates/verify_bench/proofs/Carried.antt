@@ -1,12 +1,11 @@
 -- Events that the bench carries out, one after another.
 use Rattle.std.proofs.Common.{[], ℕ, ◌++◌, ◌+◌, ◌<◌, ◌∙◌, ◌∷◌, ◌≡◌, ◌≢◌, List, add-one, ap, append_assoc, drop}
 use Rattle.std.proofs.{Common.{flat_map, get_or, length, map, refl, suc, sym, zero}, lemmas.List.{append-nil}}
-use Rattle.std.proofs.{Math.Seq.{drop-cons}, lemmas.Bool.{ne_eqb}}
-use Rattle.taxi_units.specs.declared.event.Event.TheVariants.{Pulses}
+use Rattle.{std.proofs.{Math.Seq.{drop-cons}, lemmas.Bool.{ne_eqb}}, verify_bench.specs.Common.{run_events, step}}
 use Rattle.verify_bench.specs.Bench.{BenchStands, GoesThroughEvent}
 use Rattle.verify_bench.specs.BenchProgress.{Carries, IsAmidDrive, IsAmidExpected}
-use Rattle.verify_bench.specs.Common.{BenchMeter, Context, Down, Event, Explained, Run, Setting, Tick, context_now}
-use Rattle.verify_bench.specs.Common.{ended, first_state, interval_events, intervals_events, opened, run_events, step}
+use Rattle.verify_bench.specs.Common.{BenchMeter, Context, Down, Event, Explained, Pulses, Run, Setting, Tick}
+use Rattle.verify_bench.specs.Common.{context_now, ended, first_state, interval_events, intervals_events, opened}
 use Rattle.verify_bench.specs.{ExpectedReceipts.{expected_of}, TripExplanations.{explanations_of, hired_at, trip_at}}
 use Rattle.verify_bench.specs.TripExplanations.{Explanation, explanation_of, explanations_from, explanations_in}
 

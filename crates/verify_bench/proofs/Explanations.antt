@@ -2,25 +2,24 @@
 use Rattle.std.{specs.Prelude.{if◌then◌else◌, nat_le, nat_lt}, proofs.Common.{false, map, refl, subst, sum, sym, true}}
 use Rattle.std.proofs.Common.{[], ℕ, ◌++◌, ◌+◌, ◌-◌, ◌∙◌, ◌∷◌, ◌≡◌, Bool, List, None, Option, Some, ap, append_assoc}
 use Rattle.std.proofs.lemmas.List.{map-append, Elements.{All-append, All-cons, All-nil, filter_map-append}}
-use Rattle.taxi_units.specs.{Limits.{roaming_most}, declared.event.Why.TheVariants.{TooFast}}
-use Rattle.meter_model.specs.{ClosedTrip.{roaming_checked_in, trip_closed}, Keys.{position_set, zone_set}}
-use Rattle.meter_model.specs.{Display.{display_of, is_shown}, Trip.{begun, with_extra}}
-use Rattle.meter_model.specs.{Interval.{pulses_taken, room_of}, KeptTrip.{IsTripKept, IsTripKeptIn}, Meter.{quiet}}
-use Rattle.meter_model.specs.Keys.{extra_added_to, hired, hiring, is_among, key_pressed, latch_pressed, latched}
-use Rattle.meter_model.specs.{Step.{clock_read, expired, off_step, ticked}, declared.act.Act.TheVariants.{Refuse, Show}}
-use Rattle.meter_model.specs.Supply.{aborted, is_within_hold, resumed, supply_came, turned_off}
+use Rattle.{taxi_units.specs.Limits.{roaming_most}, meter_model.specs.ClosedTrip.{roaming_checked_in, trip_closed}}
+use Rattle.meter_model.specs.{KeptTrip.{IsTripKeptIn}, Step.{off_step}, Trip.{begun, with_extra}}
+use Rattle.meter_model.specs.Keys.{extra_added_to, hiring, key_pressed, latch_pressed, position_set, zone_set}
 use Rattle.verify_bench.specs.Common.{◌>>=◌, Context, Event, ForHire, Hired, InHired, InStopped, IsSupplementNumber}
-use Rattle.verify_bench.specs.Common.{Key, Kind, Meter, MeterTrip, Off, Operating, Outcome, Part, Receipt, Rest}
-use Rattle.verify_bench.specs.Common.{Setting, Stopped, Supplement, Trip, actions_of, closed, context_now, context_of}
-use Rattle.verify_bench.specs.Common.{counted_in, ended, ended_in, expired_or_pressed, extra_added, fees_in_force}
-use Rattle.verify_bench.specs.Common.{first_state, held_or_closed, hirings_end, hold_taken, interval_begun}
-use Rattle.verify_bench.specs.Common.{interval_counted, interval_left, key_in, last_number, latch_refused, left_in}
-use Rattle.verify_bench.specs.Common.{longest_trip, opened, powered, powered_step, receipt_of, roaming_checked}
-use Rattle.verify_bench.specs.Common.{roaming_entered, run, shown, step, step_in, supplement_numbered, supply_dropped}
-use Rattle.verify_bench.specs.{Common.{ticks_so_far, times, with_interval}, Receipts.{receipt_in, receipts_in}}
+use Rattle.verify_bench.specs.Common.{IsTripKept, Key, Kind, Meter, MeterTrip, Off, Operating, Outcome, Part, Receipt}
+use Rattle.verify_bench.specs.Common.{Refuse, Rest, Setting, Show, Stopped, Supplement, TooFast, Trip, aborted}
+use Rattle.verify_bench.specs.Common.{actions_of, clock_read, closed, context_now, context_of, counted_in, display_of}
+use Rattle.verify_bench.specs.Common.{ended, ended_in, expired, expired_or_pressed, extra_added, fees_in_force}
+use Rattle.verify_bench.specs.Common.{first_state, held_or_closed, hired, hirings_end, hold_taken, interval_begun}
+use Rattle.verify_bench.specs.Common.{interval_counted, interval_left, is_among, is_shown, is_within_hold, key_in}
+use Rattle.verify_bench.specs.Common.{last_number, latch_refused, latched, left_in, longest_trip, opened, powered}
+use Rattle.verify_bench.specs.Common.{powered_step, pulses_taken, quiet, receipt_of, resumed, roaming_checked}
+use Rattle.verify_bench.specs.Common.{roaming_entered, room_of, run, shown, step, step_in, supplement_numbered}
+use Rattle.verify_bench.specs.Common.{supply_came, supply_dropped, ticked, ticks_so_far, times, turned_off}
+use Rattle.verify_bench.specs.{Common.{with_interval}, TripExplanations.{explanations_of, hired_at, hired_by, trip_at}}
+use Rattle.verify_bench.{specs.Receipts.{receipt_in, receipts_in}, proofs.TreeParts.{supplement_of_text}}
 use Rattle.verify_bench.specs.TripExplanations.{Explanation, explanation, explanations_from, explanations_in}
-use Rattle.verify_bench.specs.{TripExplanations.{explanations_of, hired_at, hired_by, trip_at}, Wholes.{IsOfText}}
-use Rattle.verify_bench.proofs.{Benches.{hired_after}, TreeParts.{supplement_of_text}}
+use Rattle.verify_bench.{specs.Wholes.{IsOfText}, proofs.Benches.{hired_after}}
 use Rattle.meter_model.proofs.Laws as states
 use Rattle.taxi_units.specs.declared.event.Event.TheVariants as events
 use Rattle.taxi_units.specs.declared.event.Key.TheVariants as keys

@@ -20,6 +20,8 @@ mod CsvRows
 mod DriveTrips
 -- readings pass exactly if each row of the report does
 mod EachPasses
+-- what the acts of an event refuse and show
+mod EventActs
 -- explanations have the receipts of the run of the meter, and what an event makes of a trip
 mod Explanations
 -- the fields of a row of csv, if it has three
@@ -56,8 +58,12 @@ mod Rows
 mod ShortExplanations
 -- how many display steps a trip can show
 mod StepCounts
+-- stories, moment by moment
+mod StoryLists
 -- the supplements that were taken, number by number
 mod TakenLists
+-- events that a meter tells, one behind the other
+mod Tellings
 -- the parts of a sound tariff that hold in a context are sound
 mod TreeParts
 -- each explanation has the fees in force at the hiring, with their lines

@@ -20,11 +20,14 @@ pub mod ReadingRows
 pub mod ReadingStages
 pub mod Readings
 pub mod Receipts
+pub mod Refusals
 pub mod Report
 pub mod RowsTaken
 pub mod Settings
 pub mod Shortened
+pub mod Story
 pub mod Supplied
+pub mod Told
 pub mod TripExplanations
 pub mod VerdictStages
 pub mod Verdicts

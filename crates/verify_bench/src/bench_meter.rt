@@ -63,7 +63,7 @@ impl BenchMeter {
     }
 
     /// How many pulses the trip has, 0 without one.
-    fn pulses(&self) -> u64
+    pub(crate) fn pulses(&self) -> u64
         requires { IsMeterInRange longest_trip 1 self.now }
         ensures { (s : Setting) (m : Meter) (hired : contexts.Context) → BenchStands s hired self.now m
             → result ≡ pulses_so_far m.trip }

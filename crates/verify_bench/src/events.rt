@@ -1,7 +1,6 @@
 //! What the events of a drive do to the meter of the bench.
-ghost use Rattle.{std.specs.Prelude.{OnOk}, meter_model.specs.{Interval.{pulses_taken}, Step.{clock_read}}};
-ghost use Rattle.verify_bench.specs.Common.{IsSecond, Setting, last_tick, powered_step, step};
-ghost use Rattle.verify_bench.specs.Settings.{setting_under};
+ghost use Rattle.{std.specs.Prelude.{OnOk}, verify_bench.specs.Settings.{setting_under}};
+ghost use Rattle.verify_bench.specs.Common.{IsSecond, Setting, clock_read, last_tick, powered_step, pulses_taken, step};
 
 use crate::bench_meter::BenchMeter;
 use crate::explained::Explained;

@@ -88,7 +88,7 @@ impl BenchMeter {
     ghost use Rattle.verify_bench.specs.Bench.{BenchStands, IsMeterInRange, MayTake};
 
     /// The meter before the supply first comes, over an empty store.
-    fn new() -> BenchMeter
+    pub(crate) fn new() -> BenchMeter
         ensures stands { (s : Setting) (hired : Context) → BenchStands s hired result (opened s first_state) }
         ensures sound { IsMeterInRange last_tick 0 result }
     {

@@ -52,7 +52,7 @@ fn amount_in(choices: &[Choice<u64>], place: Option<usize>) -> u64
 }
 
 /// The number of the line of the choice at a place, from 0; 0 if there is none.
-fn line_at<V>(choices: &[Choice<V>], place: usize) -> u32
+pub(crate) fn line_at<V>(choices: &[Choice<V>], place: usize) -> u32
     ensures { result ≡ get_or (own_lines choices.now) place 0 }
 {
     match choices.get(place) {

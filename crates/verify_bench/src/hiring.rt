@@ -1,9 +1,8 @@
 //! A hiring, with the sums of its intervals.
 ghost use Rattle.std.specs.Prelude.{[], ◌++◌, ◌+◌, ◌<◌, ◌^◌, ◌∷◌, ◌≡◌, ◌≤◌, OnOk};
-ghost use Rattle.{meter_model.specs.Trip.{with_part}, verify_bench.specs.Common.{MeterTrip, Rest, Setting, times}};
 ghost use Rattle.verify_bench.specs.Common.{Context, InHired, InStopped, IsFitInitial, IsSecond, IsSupplementNumber};
-ghost use Rattle.verify_bench.specs.Gathered.{no_sums};
-ghost use Rattle.verify_bench.specs.{Hirings.{IsHiringOf}, IntervalPrice.{IsPriceOf}, Limits.{most_charge}};
+ghost use Rattle.verify_bench.specs.{Common.{MeterTrip, Rest, Setting, times, with_part}, IntervalPrice.{IsPriceOf}};
+ghost use Rattle.verify_bench.specs.{Gathered.{no_sums}, Hirings.{IsHiringOf}, Limits.{most_charge}};
 
 use crate::explained::Sums;
 use crate::fees::HiringFees;

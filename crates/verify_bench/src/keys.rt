@@ -2,10 +2,9 @@
 #![tactic(auto, using(crate::proofs::Benches::looser))]
 
 ghost use Rattle.std.specs.Prelude.{◌≡◌, ◌≤◌, OnOk, Some};
-ghost use Rattle.{seal_record.specs.declared.params.Params.{Params}, verify_bench.specs.Common.{supplement_numbered}};
-ghost use Rattle.meter_model.specs.Keys.{latched, position_set, zone_set};
-ghost use Rattle.verify_bench.specs.Common.{ForHire, IsSupplementNumber, Setting, extra_added, last_tick};
-ghost use Rattle.verify_bench.specs.Settings.{setting_under};
+ghost use Rattle.meter_model.specs.Keys.{position_set, zone_set};
+ghost use Rattle.verify_bench.specs.Common.{ForHire, IsSupplementNumber, Params, Setting, extra_added, last_tick};
+ghost use Rattle.verify_bench.specs.{Common.{latched, supplement_numbered}, Settings.{setting_under}};
 
 use crate::bench_meter::BenchMeter;
 use crate::explained::Explained;

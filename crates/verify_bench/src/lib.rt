@@ -2,6 +2,7 @@
 //! meter, read and judged against that; and a generator of large drives.
 #![tactic(auto)]
 
+mod before;
 mod bench_meter;
 mod clock;
 mod events;
@@ -12,22 +13,30 @@ mod fares;
 mod fees;
 mod generated;
 mod generator;
+mod happenings;
 mod hiring;
 mod judging;
 mod keys;
 mod lookups;
+mod moment;
+mod narrating;
 mod passing;
 mod pricing;
+mod putting;
 mod reading;
 mod readings;
 mod receipt_laws;
+mod refusing;
 mod remaining;
 mod reporting;
 mod row;
+mod seeing;
 mod speeds;
+mod stories;
 mod sums;
 mod supply;
 mod table;
+mod teller;
 mod telling;
 mod ticking;
 mod trip;
@@ -41,6 +50,8 @@ pub use fees::HiringFees;
 pub use generated::{generated_drives_mean_their_lines, generated_events};
 pub use generator::Generator;
 pub use judging::{Verdict, judge, verdicts_name_the_first_fault};
+pub use moment::{Happening, Moment, Story};
+pub use narrating::narrate;
 pub use passing::{do_all_pass, readings_pass_where_each_row_does};
 pub use reading::{Reading, ReadingsFault};
 pub use readings::{read_readings, texts_have_one_reading};

@@ -1,10 +1,10 @@
 //! What the supply does to the meter of the bench.
 ghost use Rattle.std.specs.Prelude.{◌&&◌, ◌+◌, ◌<◌, ◌≡◌, None, OnOk, nat_le};
-ghost use Rattle.meter_model.specs.{Meter.{held}, Supply.{aborted, is_stopped, resumed, supply_came}, Trip.{held_trip}};
+ghost use Rattle.meter_model.specs.{Meter.{held}, Supply.{is_stopped}, Trip.{held_trip}};
 ghost use Rattle.verify_bench.specs.Bench.{held_of};
-ghost use Rattle.verify_bench.specs.Common.{Context, Down, IsSecond, Meter, MeterTrip, Setting, Trip, ended};
-ghost use Rattle.verify_bench.specs.Common.{held_or_closed, hold_taken, last_number, last_tick, powered};
-ghost use Rattle.verify_bench.specs.{Common.{supply_dropped}, Settings.{setting_under}, Supplied.{waking}};
+ghost use Rattle.verify_bench.specs.Common.{Context, Down, IsSecond, Meter, MeterTrip, Setting, Trip, aborted, ended};
+ghost use Rattle.verify_bench.specs.Common.{held_or_closed, hold_taken, last_number, last_tick, powered, resumed};
+ghost use Rattle.verify_bench.specs.{Common.{supply_came, supply_dropped}, Settings.{setting_under}, Supplied.{waking}};
 
 use crate::bench_meter::{BenchMeter, SavedState};
 use crate::explained::Explained;

@@ -1,8 +1,8 @@
 //! What a hiring that is closed comes to: its receipt, and why its fare is what it is.
 ghost use Rattle.std.specs.Prelude.{ℕ, ◌++◌, ◌≡◌, ◌≤◌, IfOk, List, OnOk, Some};
-ghost use Rattle.{meter_model.specs.Setting.{stamp_at}, verify_bench.specs.Groups.{group_if, groups_at, groups_from}};
 ghost use Rattle.verify_bench.specs.Common.{Context, IsSecond, MeterTrip, Part, Setting, amount_in, amounts_of};
-ghost use Rattle.verify_bench.specs.Common.{longest_trip, own_lines, receipt_of, sound_of, supplement_of, tree_of};
+ghost use Rattle.verify_bench.specs.Common.{longest_trip, own_lines, receipt_of, sound_of, stamp_at, supplement_of};
+ghost use Rattle.verify_bench.specs.{Common.{tree_of}, Groups.{group_if, groups_at, groups_from}};
 ghost use Rattle.verify_bench.specs.{Gathered.{IsTableOf, all_ways}, Hirings.{IsHiringOf, IsWhole}};
 ghost use Rattle.verify_bench.specs.Settings.{setting_under};
 ghost use Rattle.verify_bench.specs.TripExplanations.{explanation, explanation_of, taken_if, taken_of};
@@ -94,7 +94,7 @@ fn receipt(hiring: &Hiring, closing: Closing, checked: &Checked, params: &Params
 }
 
 /// The local date and time at a second.
-fn stamp(params: &Params, second: u64) -> Stamp
+pub(crate) fn stamp(params: &Params, second: u64) -> Stamp
     requires { IsSecond second }
     ensures { (s : Setting) → s.offsets ≡ params.now.offsets → result ≡ stamp_at s second }
 {
@@ -200,7 +200,7 @@ fn amount_of(number: u8, checked: &Checked) -> u64
 }
 
 /// What the supplements cost together.
-fn supplements(hiring: &Hiring, checked: &Checked) -> u64
+pub(crate) fn supplements(hiring: &Hiring, checked: &Checked) -> u64
     requires { IsWhole hiring.now }
     ensures { result ≡ amounts_of (sound_of (tree_of checked.now)) hiring.now.extras.items }
 {

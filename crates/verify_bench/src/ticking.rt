@@ -1,7 +1,6 @@
 //! What a tick does to the meter of the bench.
 ghost use Rattle.std.specs.Prelude.{◌≡◌, None, OnOk};
-ghost use Rattle.{meter_model.specs.Step.{expired, ticked}, verify_bench.specs.Common.{Tick, last_tick, longest_trip}};
-ghost use Rattle.verify_bench.specs.Settings.{setting_under};
+ghost use Rattle.verify_bench.specs.{Common.{Tick, expired, last_tick, longest_trip, ticked}, Settings.{setting_under}};
 
 use crate::bench_meter::BenchMeter;
 use crate::explained::Explained;

@@ -1,7 +1,6 @@
-use Rattle.std.proofs.lemmas.Bool.{eqb-false, eqb-true}
-use Rattle.std.proofs.Common.{[], ℕ, ◌++◌, ◌∙◌, ◌∷◌, ◌<◌, ◌≤◌, Bor, List, Some, arith, inl, inr, length, refl, sym}
-use Rattle.{std.proofs.lemmas.Result.{err_from_is_err_and}, csv.specs.Reading.{Reached, default_config, strip_bom}}
-use Rattle.csv.{specs.Records.{fields_of}, proofs.ReadFacts.{rows-end, rows-more}}
+use Rattle.std.proofs.Common.{[], ℕ, ◌++◌, ◌<◌, ◌∙◌, ◌∷◌, ◌≤◌, Bor, List, Some, arith, inl, inr, length, refl, sym}
+use Rattle.{std.proofs.lemmas.{Bool.{eqb-false, eqb-true}, Result.{err_from_is_err_and}}, csv.specs.Records.{fields_of}}
+use Rattle.csv.{specs.Reading.{Reached, default_config, strip_bom}, proofs.ReadFacts.{rows-end, rows-more}}
 use Rattle.verify_bench.{specs.Readings.{empty, readings_limit}, proofs.Rows.{fault_of_row, none_is_bad}}
 use Rattle.csv.specs.declared.parser.State.TheVariants as states
 use Rattle.verify_bench.proofs.readings.read_readings.Goals as goal

@@ -1,7 +1,8 @@
 use Rattle.std.{specs.Option.{unwrap_or}, proofs.Common.{ℕ, ◌≡◌, Option, ap, arith, refl, sym}}
 use Rattle.drive_modes.specs.{Distance.{millimetres_of}, declared.meterage.Rounding.{Rounding, TheVariants.{Behind}}}
-use Rattle.meter_model.specs.{Setting.{stamp_at}, Trip.{charges_of, fare_of, pulses_of, steps_shown}}
-use Rattle.verify_bench.{specs.{Common.{Sums, amounts_of}, Settings.{setting_under}}, proofs.Benches.{whole_pulses}}
+use Rattle.meter_model.specs.Trip.{charges_of, fare_of, pulses_of, steps_shown}
+use Rattle.verify_bench.specs.{Common.{Sums, amounts_of, stamp_at}, Settings.{setting_under}}
+use Rattle.verify_bench.proofs.Benches.{whole_pulses}
 use Rattle.verify_bench.proofs.telling.receipt.Goals as goal
 
 pub returns : goal.returns

@@ -1,6 +1,6 @@
 use Rattle.{std.proofs.Common.{ap, refl}, taxi_units.specs.declared.receipt.Kind.TheVariants.{Aborted}}
-use Rattle.{meter_model.specs.Meter.{quiet}, verify_bench.proofs.Benches.{moves_quietly, moves_then}}
-use Rattle.verify_bench.specs.{Common.{Meter, SavedState, closed}, Settings.{setting_under}}
+use Rattle.verify_bench.{specs.Common.{Meter, SavedState, closed, quiet}, proofs.Benches.{moves_quietly, moves_then}}
+use Rattle.verify_bench.specs.Settings.{setting_under}
 use Rattle.verify_bench.proofs.bench_meter.BenchMeter.abort.Goals as goal
 
 pub returns-clause-moves : goal.returns-clause-moves

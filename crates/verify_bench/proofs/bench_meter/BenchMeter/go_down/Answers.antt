@@ -1,6 +1,5 @@
-use Rattle.{std.proofs.Common.{None, refl}, meter_model.specs.Supply.{turned_off}}
-use Rattle.verify_bench.{specs.Common.{Off, held_or_closed, interval_left}, proofs.Benches.{moves_quietly, moves_then}}
-use Rattle.verify_bench.specs.Settings.{setting_under}
+use Rattle.{std.proofs.Common.{None, refl}, verify_bench.specs.Common.{Off, held_or_closed, interval_left, turned_off}}
+use Rattle.verify_bench.{specs.Settings.{setting_under}, proofs.Benches.{moves_quietly, moves_then}}
 use Rattle.verify_bench.proofs.bench_meter.BenchMeter.go_down.Goals as goal
 
 pub returns-clause-moves : goal.returns-clause-moves

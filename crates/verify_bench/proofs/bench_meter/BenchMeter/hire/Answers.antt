@@ -1,7 +1,6 @@
 use Rattle.std.{specs.Prelude.{nat_le}, proofs.Common.{ℕ, ◌∙◌, ◌≡◌, ap, arith, false, refl, sym}}
-use Rattle.{meter_model.specs.Keys.{hired}, verify_bench.specs.Common.{context_now, context_on, hirings_end, local_at}}
-use Rattle.verify_bench.specs.Fees.{fees_of_hiring}
-use Rattle.verify_bench.{specs.Settings.{setting_under}, proofs.Benches.{hires_yet, moves_quietly}}
+use Rattle.verify_bench.specs.{Common.{context_now, context_on, hired, hirings_end, local_at}, Settings.{setting_under}}
+use Rattle.verify_bench.{specs.Fees.{fees_of_hiring}, proofs.Benches.{hires_yet, moves_quietly}}
 use Rattle.verify_bench.proofs.bench_meter.BenchMeter.hire.Goals as goal
 
 pub returns-clause-moves : goal.returns-clause-moves

@@ -1,5 +1,5 @@
 use Rattle.std.proofs.{Common.{[], ◌∷◌}, lemmas.Result.{on_ok_weaker}}
-use Rattle.{taxi_units.specs.declared.event.Event.TheVariants.{Pulses}, verify_bench.specs.Common.{Tick}}
+use Rattle.verify_bench.specs.Common.{Pulses, Tick}
 use Rattle.verify_bench.{specs.Settings.{setting_under}, proofs.Carried.{carries_then, interval_none, interval_some}}
 use Rattle.verify_bench.proofs.bench_meter.BenchMeter.interval.Goals as goal
 

@@ -1,7 +1,7 @@
 use Rattle.std.proofs.Common.{◌∙◌, ◌≡◌, None, Option, ap, false, refl, subst, sym, true}
-use Rattle.{meter_model.specs.Supply.{is_within_hold}, verify_bench.specs.{Bench.{Moves}, Supplied.{waking}}}
-use Rattle.verify_bench.{specs.Common.{ForHire, SavedState, Trip, hold_taken, powered}, proofs.Benches.{moves_quietly}}
+use Rattle.verify_bench.specs.{Bench.{Moves}, Common.{ForHire, SavedState, Trip, hold_taken, is_within_hold, powered}}
 use Rattle.verify_bench.{specs.Settings.{setting_under}, proofs.BenchSupply.{hold_beside, none_held, saved_is_a_second}}
+use Rattle.verify_bench.{specs.Supplied.{waking}, proofs.Benches.{moves_quietly}}
 use Rattle.verify_bench.proofs.bench_meter.BenchMeter.take_hold.Goals as goal
 
 pub abort-requires-clause-saved : goal.abort-requires-clause-saved
