@@ -171,7 +171,8 @@ pub fn taxi<F: Files, B: Board<STORE_SIZE, L>, L: Ledger>(
 
     // The steps: one for the last line, one for each row of tables, at most 31 for offsets; 64 for an opening of the
     // store, and for each event of a drive that is run and the supply drop at its end; one for each 512 bytes that are
-    // printed of a bench, a form, faults, lines, rates or a comparison; one for each reply, two for each byte of a shift book.
+    // printed of a bench, a form, faults, lines, rates or a comparison; one for each reply, two for each byte of a
+    // shift book.
     ensures steps { TakesSteps F.Files B.Printer (called_by words.now) files.old files.new board.old steps.old
         steps.new }
 

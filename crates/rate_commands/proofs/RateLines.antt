@@ -57,5 +57,6 @@ pub no_more : (k : ℕ) (rates : List (Choice RateNumbers)) (i number : ℕ) (te
 unfolding rate_lines
 no_more k rates i number text all past so_far =
     sym (append-nil text) ∙ subst
-    (λ (xs : List (Choice RateNumbers)). text ++ rate_lines k number (own_rates xs) ≡ all) (drop_of_length-le rates past)
+    (λ (xs : List (Choice RateNumbers)). text ++ rate_lines k number (own_rates xs) ≡ all)
+    (drop_of_length-le rates past)
     so_far

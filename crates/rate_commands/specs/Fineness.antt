@@ -13,8 +13,8 @@ rate_of r = record { a = r.a; b = r.b; c = r.c; e = r.e }
 abbrev pub weights_under : (k : ℕ) → RateNumbers → Weights
 weights_under k r = own_weights (rate_of r) k
 
--- at the cross-over speed an interval has as many pulses as cost what it costs, counted in thousandths and rounded down;
--- a rate whose distance costs nothing has no such speed
+-- at the cross-over speed an interval has as many pulses as cost what it costs, counted in thousandths and rounded
+-- down; a rate whose distance costs nothing has no such speed
 abbrev pub pulses_at_cross_over : Weights → Option ℕ
 pulses_at_cross_over w = if w.per_pulse == 0 then None else Some (1000 * w.per_tick / w.per_pulse)
 

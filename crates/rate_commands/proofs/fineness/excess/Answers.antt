@@ -4,7 +4,8 @@ use Rattle.rate_commands.proofs.fineness.excess.Goals as goal
 
 pub returns-then-is_within : goal.returns-then-is_within
 returns-then-is_within c =
-    excess_here c.args.weights c.loop-tenths.tenths c.loop-tenths.invariant (sym c.is_within.ensures ∙ c.if-is_within.true)
+    excess_here c.args.weights c.loop-tenths.tenths c.loop-tenths.invariant
+    (sym c.is_within.ensures ∙ c.if-is_within.true)
 
 pub loop-tenths-preserved : goal.loop-tenths-preserved
 loop-tenths-preserved c =
