@@ -65,25 +65,15 @@ warn_of_offsets() {
 # Warns if under a rate that counts in some moment an even speed can be charged more than ten percent too much in mode S,
 # where the tariff is the sealed one still.
 warn_of_coarse_rates() {
-  local file=$1 constant rows rates place said='' tenths is_coarse
+  local file=$1 constant held rates place line excess said=''
   constant=$(value_of constant "$sealed")
   [ "$(value_of mode "$sealed")" = single ] && [ -f "$file" ] &&
     [ "$(sha256sum 2>/dev/null <"$file" | cut -d' ' -f1)" = "$(value_of '# TARIFF' "$sealed")" ] || return 0
-  mapfile -t rows < <(timeout --foreground 60 "$program" lines "$file" "$constant" 2>/dev/null | grep '^[0-9]* rate ')
+  held=$(timeout --foreground 60 "$program" lines "$file" "$constant" 2>/dev/null | sed -n 's/ rate holds .*//p')
   mapfile -t rates < <("$program" form "$file" 2>/dev/null | grep '^rate ')
-  for place in "${!rates[@]}"; do
-    [[ ${rows[place]-} == *' holds '* ]] || continue
-    # shellcheck disable=SC2046
-    look_at_rate $(numbers_of "${rates[place]}") "$constant"
-    [ -z "$is_coarse" ] || said+=$'\n'"  --> $(shown_name "$file"):${rows[place]%% *}: at most $((tenths / 10)).$((tenths % 10)) % too much: $(printf %s "${rates[place]}" | shown)"
-  done
+  while read -r _ place _ line _ _ _ _ _ excess; do
+    if [ "${excess/./}" -le 100 ] || ! grep -qx "$line" <<<"$held"; then continue; fi
+    said+=$'\n'"  --> $(shown_name "$file"):$line: at most $excess % too much: $(printf %s "${rates[place - 1]}" | shown)"
+  done < <("$program" rates "$file" "$constant" 2>/dev/null | grep '^RATE ')
   [ -z "$said" ] || say "in mode single and with a constant of $constant an even speed is charged too much by what stands below (docs/METER.md, \"How fine mode S is\")$said"
-}
-
-# The four numbers of a printed rate, in units, decimetres and tenths of a second.
-numbers_of() {
-  local number
-  for number in $(sed -n 's/^rate \([0-9.]*\) per \([0-9.]*\) m, \([0-9.]*\) per \([0-9.]*\) s.*/\1 \2 \3 \4/p' <<<"$1" | tr -d .); do
-    echo $((10#$number))
-  done
 }
