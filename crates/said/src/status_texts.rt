@@ -24,7 +24,7 @@ fn taxi_status_2() -> Topic {
         names: "2|BAD TARIFF|BAD OTHER",
         text: "status 2, printed last: BAD TARIFF .., BAD OTHER ..\nwhat to do: mend the first tariff, or the \
 second; taxi help FAULT and docs/TARIFF.md say what the fault is\ncommands: check, faults, form, \
-tables, lines, compare, fare, seal, run, bench, explain\nmore: docs/use/COMMANDS.md\n",
+tables, lines, rates, compare, fare, seal, run, bench, explain\nmore: docs/use/COMMANDS.md\n",
     }
 }
 
@@ -79,9 +79,10 @@ commands: those that read a file\nmore: docs/use/COMMANDS.md\n",
 fn taxi_status_8() -> Topic {
     Topic {
         names: "8",
-        text: "status 8\nwhat to do: see what taxi names: an output that is closed, full or taxi.store itself; \
-a store that is short, in use or can't be written. Don't run the same drive again: see \"A run \
-that broke off\" and \"Status 8 and the store\"\ncommands: all\nmore: docs/use/COMMANDS.md\n",
+        text: "status 8\nwhat to do: see what taxi names: an output that is closed, full, or a store or a log \
+itself; a store that is short, in use or can't be written. Don't run the same drive again: see \
+\"A run that broke off\" and \"Status 8 and the store\"\ncommands: all\nmore: \
+docs/use/COMMANDS.md\n",
     }
 }
 
@@ -280,9 +281,9 @@ was read of it is filed\nmore: docs/use/HIRING_LOG.md\n",
 fn log_status_7() -> Topic {
     Topic {
         names: "8",
-        text: "status 8\nwhat to do: see what hiring_log names: an output that is closed, full or taxi.log \
-itself; a log that is short, in use or can't be written. After a failure of the disk, mount it \
-anew first\nmore: docs/use/HIRING_LOG.md\n",
+        text: "status 8\nwhat to do: see what hiring_log names: an output that is closed, full, or a store or a \
+log itself; a log that is short, in use or can't be written. After a failure of the disk, mount \
+it anew first\nmore: docs/use/HIRING_LOG.md\n",
     }
 }
 

@@ -84,6 +84,17 @@ fn command_4() -> Topic {
 /// A command of the taximeter, told further.
 fn command_5() -> Topic {
     Topic {
+        names: "rates",
+        text: "Says how fine a constant is for each rate in mode S: its cross-over speed in metres an hour, \
+the\npulses of an interval of 0.1 s at it, and the most that an even speed is charged too much, \
+in\npercent (docs/METER.md, \"How fine mode S is\"). The last line has the nearest constants, \
+down and up,\nunder which that is at most 10 percent for all rates.\n",
+    }
+}
+
+/// A command of the taximeter, told further.
+fn command_6() -> Topic {
+    Topic {
         names: "compare",
         text: "Prints SAME, or what differs first between two tariffs under a constant, with the line of each\n\
 (docs/TARIFF.md, \"Two tariffs that are the same\"):\n",
@@ -91,7 +102,7 @@ fn command_5() -> Topic {
 }
 
 /// A command of the taximeter, told further.
-fn command_6() -> Topic {
+fn command_7() -> Topic {
     Topic {
         names: "fare",
         text: "Prints the displays and refusals of a drive, without a store: in mode S, with trips held for 60 \
@@ -100,7 +111,7 @@ s,\nand local time as UTC.\n",
 }
 
 /// A command of the taximeter, told further.
-fn command_7() -> Topic {
+fn command_8() -> Topic {
     Topic {
         names: "seal",
         text: "Seals taxi.store with a tariff and the secured parameters, and prints the number of the seal. \
@@ -116,7 +127,7 @@ or the new one, and its totals.\n",
 }
 
 /// A command of the taximeter, told further.
-fn command_8() -> Topic {
+fn command_9() -> Topic {
     Topic {
         names: "run",
         text: "Carries out a drive on the sealed store: prints displays, refusals and receipts, and keeps \
@@ -128,7 +139,7 @@ up to there. run .. | head ends with 8 and loses the\nrest of the drive, so prin
 }
 
 /// A command of the taximeter, told further.
-fn command_9() -> Topic {
+fn command_10() -> Topic {
     Topic {
         names: "bench",
         text: "Judges the readings that were taken at a meter by what a drive should come to under the seal, \
@@ -137,7 +148,7 @@ with a\nverdict for each hiring.\n",
 }
 
 /// A command of the taximeter, told further.
-fn command_10() -> Topic {
+fn command_11() -> Topic {
     Topic {
         names: "explain",
         text: "Says why the fare of each hiring that a drive closes is what it is: which lines counted, what \
@@ -147,7 +158,7 @@ sealed\nprinted. A trip that is still held isn't explained.\n",
 }
 
 /// A command of the taximeter, told further.
-fn command_11() -> Topic {
+fn command_12() -> Topic {
     Topic {
         names: "totals",
         text: "Prints the totals of the store, whether it holds a trip, its layout, and the shares of each \
@@ -156,7 +167,7 @@ tariff\nposition.\n",
 }
 
 /// A command of the taximeter, told further.
-fn command_12() -> Topic {
+fn command_13() -> Topic {
     Topic {
         names: "sealed",
         text: "Prints what the store was sealed with, as a text of parameters with which another meter can be\n\
@@ -180,6 +191,7 @@ pub(crate) fn command(place: usize) -> Option<Topic> {
         10 => Some(command_10()),
         11 => Some(command_11()),
         12 => Some(command_12()),
+        13 => Some(command_13()),
         _ => None,
     }
 }
