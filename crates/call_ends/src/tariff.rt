@@ -90,8 +90,8 @@ pub fn tariff_of_text(alloc: Global, text: &[u8]) -> Result<Checked, TextFault>
     }
 }
 
-/// Reads the sound tariff of a word, to the end of its file if it is accepted. `NoMemory` comes only if nothing was read,
-/// or if the lines are those of a tariff, sound or not.
+/// Reads the sound tariff of a word, to the end of its file if it is accepted. `NoMemory` comes only if nothing was
+/// read, or if the lines are those of a tariff, sound or not.
 pub fn read_tariff<F: Files>(
     alloc: Global,
     files: &mut F,

@@ -24,8 +24,8 @@ pub fn intervals_are_charged_in_contexts_of_a_meter()
 
 /// Some drive reaches each context of a meter, under the constant and each mode and hold. The drive ends whole, with
 /// fewer than 2^40 bytes. From a store without entries it leads to an interval in Hired that begins in the context, of
-/// a trip with the fees and the cover of a hiring in the same context without ticks and pulses. Its pulses come by drops
-/// of the supply: each leaves an interval unfinished, whose pulses count and whose tick doesn't.
+/// a trip with the fees and the cover of a hiring in the same context without ticks and pulses. Its pulses come by
+/// drops of the supply: each leaves an interval unfinished, whose pulses count and whose tick doesn't.
 pub fn each_context_is_reached()
     ensures { (t : Tree) (k : ℕ) (mode : Mode) (hold : ℕ) (c : MeterContext) → IsWritable t → IsSound t
         → IsMeterContext t c → IsReached t k mode hold c }

@@ -108,11 +108,13 @@ places_behind kind before (l ∷ ls) =
 
     front : (own : ChoiceKind) (count : ℕ) → is_same_kind kind own ≡ true
         → places_of kind all ≡ range_with_len (place_behind kind before + 1) count
-        → places_of kind (choice own ∷ all) ≡ place_behind kind before ∷ range_with_len (place_behind kind before + 1) count
+        → places_of kind (choice own ∷ all)
+        ≡ place_behind kind before ∷ range_with_len (place_behind kind before + 1) count
     front own count same rest = rw (same, rest, same_is kind own same) refl
 
     by : (o : Option ChoiceKind) (told : Bool) → told ≡ option_map_or (is_same_kind kind) o false
-        → places_of kind all ≡ range_with_len (place_behind kind before + cond told 1 0) (length (lines_of_kind kind ls))
+        → places_of kind all
+        ≡ range_with_len (place_behind kind before + cond told 1 0) (length (lines_of_kind kind ls))
         → places_of kind (cons_option (option_map choice o) all) ≡ range_with_len (place_behind kind before)
         (length (cond told (l ∷ lines_of_kind kind ls) (lines_of_kind kind ls)))
     by None true is rest = absurd cc

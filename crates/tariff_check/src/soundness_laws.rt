@@ -108,7 +108,7 @@ pub fn sound_tariffs_are_their_parts()
 
 /// The law of choices: each choice that the lines of a tariff give stands at its line. The line at the choice's place
 /// among the lines of its kind has the number that the choice names. No line is left out: the choices of a kind have
-/// the places 0, 1 and so on, up to how many lines of the kind there are, and all choices are in the order of the lines.
+/// the places 0, 1 and so on, up to how many lines of the kind there are, and all choices are in the lines' order.
 pub fn choices_stand_at_their_lines()
     ensures line { (lines : List Line) → All (StandsAtItsLine lines) (choice_lines lines) }
     ensures places { (kind : ChoiceKind) (lines : List Line)

@@ -24,8 +24,8 @@ pub fn tables_equal_the_tree()
 {}
 
 /// The law of weights: if the common measure is a multiple of both measures of a rate, the rate's weights are its own:
-/// k pulses cost what a kilometre costs, and an interval costs what a tenth of a second costs. In a sound tariff it is one
-/// of each rate's measures, so the weights in force in a context are those of the rate in force in it.
+/// k pulses cost what a kilometre costs, and an interval costs what a tenth of a second costs. In a sound tariff it is
+/// one of each rate's measures, so the weights in force in a context are those of the rate in force in it.
 pub fn weights_are_those_of_their_rates()
     ensures own { (k common : ℕ) (r : RateNumbers) → IsMultipleOfAll (r.b ∷ r.e ∷ []) common
         → AreWeightsOf (own_rate r) k (k * common) (weights_of k common r) }

@@ -356,10 +356,12 @@ one_has_uncharged s events e is_of =
     let stopped = ap (λ (e : Explanation). e.stopped) is_of.is in
     record {
       of = is_of;
-      pulses = ap (λ (w : Sums). w.pulses) stopped ∙ same_amounts pulses_in is_in_stopped pulses_stopped own_pulses parts;
+      pulses = ap (λ (w : Sums). w.pulses) stopped
+          ∙ same_amounts pulses_in is_in_stopped pulses_stopped own_pulses parts;
       ticks = ap (λ (w : Sums). w.ticks) stopped ∙ same_amounts ticks_in is_in_stopped ticks_stopped own_ticks parts;
       charge = ap (λ (w : Sums). w.charge) stopped ∙ free_parts (charge_in s) is_in_stopped (stopped_free s) parts;
-      dropped = ap (λ (e : Explanation). e.dropped) is_of.is ∙ same_amounts pulses_in is_rest pulses_dropped own_rest parts;
+      dropped = ap (λ (e : Explanation). e.dropped) is_of.is
+          ∙ same_amounts pulses_in is_rest pulses_dropped own_rest parts;
     }
 
 pub all_have_uncharged : (s : Setting) (events : List Event)
