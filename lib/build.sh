@@ -155,7 +155,7 @@ version() {
 answer_now() {
   local log status named file place watcher words=("$@")
   [[ " $without_store " == *" $1 "* ]] || { say "--now is for the commands without a store: $without_store"; exit 1; }
-  ! leads_to_store 1 || { say "status 8: the output is $store itself; print to another file"; exit 8; }
+  ! leads_to_store 1 || { say "status 8: the output is $kept itself; print to another file"; exit 8; }
   has_kit || exit 125
   # The program runs in another folder, so the files go by their whole names.
   name_files "$@"

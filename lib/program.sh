@@ -50,8 +50,18 @@ go_to() {
   fi
 }
 
-# Whether a stream of this process leads into the store; it isn't asked in a subshell, which has other streams.
-leads_to_store() { [ "/proc/self/fd/$1" -ef "$store" ]; }
+# Whether a stream of this process leads into a file that the programs keep, here or in another folder; sets `kept` to its
+# name then. It isn't asked in a subshell, which has other streams.
+leads_to_store() {
+  local stream=/proc/$$/fd/$1 path
+  [ -f "$stream" ] || return 1
+  path=$(readlink -- "$stream")
+  for kept in taxi.store taxi.store.new taxi.log taxi.log.new; do
+    [ ! "$stream" -ef "$kept" ] || return 0
+    [ "${path##*/}" != "$kept" ] || { kept=$(shown_name "$path"); return 0; }
+  done
+  return 1
+}
 
 # Keeps what is said out of the store, where the standard error leads there. The program gets it as it is, and refuses.
 keep_out_of_store() {

@@ -17,7 +17,7 @@ look_behind() {
   local streams=/proc/$$/fd command=$1
   seen=()
   if [ ! -d /proc/self/fd ]; then
-    [ ! -e "$store" ] || see /proc 'does not show this process, so nobody can tell what its outputs are; mount it'
+    see /proc 'does not show this process, so nobody can tell what its outputs are; mount it'
     return
   fi
   look_at_outputs
@@ -25,16 +25,14 @@ look_behind() {
 }
 
 look_at_outputs() {
-  local output=$streams/1 stream file
+  local output=$streams/1 stream kept
   if [ ! -e "$output" ]; then see 'the output' 'is closed'
   elif [ -p "$output" ] || [ -S "$output" ]; then has_reader "$output" || see 'the output' "$gone"
   elif [ -f "$output" ] && ! has_room "$output"; then see 'the output' 'is a file, and its file system has no room left'
   elif [ -f "$output" ] && is_at_limit "$output"; then see 'the output' 'is a file that is as long as this process may make one (ulimit -f)'
   elif [ "$(LC_ALL=C stat -L -c %t:%T "$output" 2>/dev/null)" = 1:7 ]; then see 'the output' 'is /dev/full'; fi
   for stream in 1 2; do
-    for file in "$store" "$store.new"; do
-      [ ! "$streams/$stream" -ef "$file" ] || see "$([ $stream = 1 ] && echo 'the output' || echo 'the standard error')" "is $file itself; print to another file"
-    done
+    ! leads_to_store $stream || see "$([ $stream = 1 ] && echo 'the output' || echo 'the standard error')" "is $kept itself; print to another file"
   done
 }
 
