@@ -3,18 +3,12 @@
 use crate::faulty_system::{Again, Call, Fault};
 use crate::faulty_tests::Ask::{Print, Read, Sync, Write, WriteLast};
 use crate::faulty_tests::{
-    ALL, Access, Case, FOUND_CASE, HARD, NEW_CASE, NO_CALL, NO_MAKING, ONE, UNTOUCHED, play_all,
+    ALL, Access, Case, FOUND_CASE, HARD, LINKED, NEW_CASE, NO_CALL, NO_MAKING, ONE, UNTOUCHED,
+    play_all,
 };
 use crate::file_tests::{Change, STORE, Sight, UNFINISHED};
 use std::io::ErrorKind;
 use std::test::Fail;
-
-/// A store at the end of a link.
-const LINKED: &[Change] = &[
-    Change::Folder("kept"),
-    Change::File("kept/store", 7, 2048),
-    Change::Link("kept/store", STORE),
-];
 
 /// The sync of an opening fails. A store that may be written is written again, and no other.
 const OPENINGS: &[Case] = &[
@@ -48,6 +42,17 @@ const OPENINGS: &[Case] = &[
         ],
         kinds: HARD,
         calls: NO_CALL,
+        left: UNTOUCHED,
+        ..FOUND_CASE
+    },
+    Case {
+        name: "the sync of an opening fails, and the first of four pieces can't be read",
+        faults: &[
+            Fault::Fails(Call::Sync(STORE)),
+            Fault::FailsFirst(Call::Read(STORE)),
+        ],
+        calls: NO_CALL,
+        again: Again::Bytes(512, 2048),
         left: UNTOUCHED,
         ..FOUND_CASE
     },
@@ -185,6 +190,20 @@ const FOLDERS: &[Case] = &[
         left: &[
             Sight::Holds(STORE, &[], 7, 2050, &[]),
             Sight::Holds(UNFINISHED, &[], 9, 700, &[]),
+        ],
+        ..FOUND_CASE
+    },
+    Case {
+        name: "the sync of a folder fails, and another has the lock of the name that is made",
+        faults: &[
+            Fault::Fails(Call::Sync(".")),
+            Fault::FailsSo(Call::Lock(UNFINISHED), ErrorKind::WouldBlock),
+        ],
+        kinds: HARD,
+        calls: NO_CALL,
+        left: &[
+            Sight::Holds(STORE, &[], 7, 2050, &[]),
+            Sight::Holds(UNFINISHED, &[], 0, 0, &[]),
         ],
         ..FOUND_CASE
     },

@@ -1,5 +1,5 @@
 //! For tests: a system of which chosen calls fail, and which checks the order of its calls.
-ghost use Rattle.std.specs.Prelude.{◌≤◌, IfOk};
+ghost use Rattle.std.specs.Prelude.{◌≤◌, IfOk, length};
 
 use crate::file_tests::{Change, make};
 use outside::HeldFile;
@@ -11,8 +11,9 @@ use std::io;
 use std::io::{ErrorKind, Read, Seek, SeekFrom, Write};
 use std::os::unix::fs::PermissionsExt;
 use std::path::PathBuf;
-use std::rt::Files as HostSystem;
+use std::rt::{Clock, Files as HostSystem};
 use std::test::Fail;
+use std::time::Duration;
 
 /// A call of the system, with the name that it is asked of.
 #[derive(Clone, Copy, PartialEq, Eq)]
@@ -21,6 +22,13 @@ pub(crate) enum Call {
     OpenToWrite(&'static str),
     Metadata(&'static str),
     OwnMetadata(&'static str),
+
+    /// The path at the end of all links.
+    RealPath(&'static str),
+
+    /// The path to which a link leads.
+    OwnPath(&'static str),
+
     Link(&'static str),
     Remove(&'static str),
     Allow(&'static str),
@@ -41,10 +49,13 @@ pub(crate) enum Fault {
     /// This call fails with this error.
     FailsSo(Call, ErrorKind),
 
+    /// This call fails with the error that is tried, the first time that it is made.
+    FailsFirst(Call),
+
     /// This call fails with the error that is tried, but for the first time that it is made.
     FailsLater(Call),
 
-    /// Whoever asks for the first name is told of the second.
+    /// Whoever asks for the first name, or for its path, is told of the second.
     Leads(&'static str, &'static str),
 
     /// As this call is made for the first time, another makes this change in the folder.
@@ -56,6 +67,10 @@ pub(crate) enum Fault {
     /// A read or a write of a file moves one byte. Before each, this number of signals interrupts it, and after this
     /// number of bytes the medium is full.
     Stubborn(u8, u8),
+
+    /// A print moves one byte. Before the first, the output takes nothing this number of times, and that number of
+    /// times before each later one.
+    Full(u16, u16),
 }
 
 /// What was done again.
@@ -74,6 +89,9 @@ pub(crate) enum Again {
 
     /// Of stubborn files this number of reads and writes was asked for.
     Moves(u32),
+
+    /// This number of times it was waited for a tenth of a second.
+    Pauses(u32),
 }
 
 /// Which sync failed last.
@@ -89,6 +107,9 @@ enum FailedSync {
 
 /// The most bytes that may be written at once.
 const PIECE: usize = 512;
+
+/// What each print prints.
+pub(crate) const PRINTED: &[u8; 9] = b"FOR HIRE\n";
 
 /// The faults, the error that is tried, and what is known of the order of the calls.
 #[derive(Drop)]
@@ -117,6 +138,12 @@ pub(crate) struct Trial {
 
     /// How many bytes of stubborn files were moved.
     bytes: Cell<u8>,
+
+    /// How often a full output took nothing since its last byte.
+    refusals: Cell<u16>,
+
+    /// How many bytes were printed.
+    printed: Cell<usize>,
 }
 
 impl Trial {
@@ -138,6 +165,8 @@ impl Trial {
             again: Cell::new(Again::Nothing),
             signals: Cell::new(0),
             bytes: Cell::new(0),
+            refusals: Cell::new(0),
+            printed: Cell::new(0),
         };
         match Box::new(alloc, trial) {
             Ok(place) => Ok(&*Box::leak(place)),
@@ -155,6 +184,11 @@ impl Trial {
         self.again.get()
     }
 
+    /// How many bytes were printed.
+    pub(crate) fn printed(&self) -> usize {
+        self.printed.get()
+    }
+
     /// Fails if a fault says so of this call.
     fn pass(&self, rt: HostRuntime, call: Call) -> io::Result<()> {
         if !self.has_begun.get() {
@@ -165,6 +199,10 @@ impl Trial {
                 Fault::Meanwhile(of, change) if *of == call && !self.was_made.get() => {
                     self.was_made.set(true);
                     make(rt, change)?;
+                }
+                Fault::FailsFirst(of) if *of == call && !self.was_made.get() => {
+                    self.was_made.set(true);
+                    return Err(io::Error::from(self.kind));
                 }
                 Fault::FailsLater(of) if *of == call && !self.was_made.get() => {
                     self.was_made.set(true);
@@ -264,6 +302,37 @@ impl Trial {
         Ok(())
     }
 
+    /// How many of these bytes a print moves: each, but on a full output one at most. They have to be those of a print
+    /// that weren't printed yet.
+    fn taken(&self, bytes: &[u8]) -> io::Result<usize>
+        ensures within { IfOk result (λ taken. taken ≤ length bytes.now) }
+    {
+        let printed = self.printed.get();
+        if PRINTED.get(printed % 9..) != Some(bytes) {
+            return Err(disorder());
+        }
+        let mut count = bytes.len();
+        for fault in self.faults {
+            if let Fault::Full(first, later) = fault {
+                self.refuse(if printed == 0 { *first } else { *later })?;
+                count = count.min(1);
+            }
+        }
+        self.printed.set(printed.saturating_add(count));
+        Ok(count)
+    }
+
+    /// Fails if a full output is still to take nothing before the next byte.
+    fn refuse(&self, times: u16) -> io::Result<()> {
+        let refusals = self.refusals.get();
+        if refusals < times {
+            self.refusals.set(refusals + 1);
+            return Err(io::Error::from(ErrorKind::WouldBlock));
+        }
+        self.refusals.set(0);
+        Ok(())
+    }
+
     /// The name that is told in place of this one.
     fn led<'b>(&self, name: &'b str) -> &'b str {
         if !self.has_begun.get() {
@@ -305,9 +374,11 @@ impl FaultyFile {
 }
 
 /// The names whose calls may fail.
-const NAMES: [&str; 9] = [
+const NAMES: [&str; 11] = [
     "taxi.store",
     "taxi.store.new",
+    "taxi.log",
+    "taxi.log.new",
     ".",
     "kept",
     "kept/store",
@@ -365,11 +436,16 @@ impl HostSystem for FaultySystem {
 
     fn open_file(&self, how: &OpenOptions, path: &str) -> io::Result<FaultyFile> {
         let name = listed(path);
-        self.pass(if how.asks_write() {
+        let passed = self.pass(if how.asks_write() {
             Call::OpenToWrite(name)
         } else {
             Call::Open(name)
-        })?;
+        });
+        if passed.is_err() {
+            // A folder that can't be opened can't be synced, and that is no disorder.
+            self.trial.has_names.set(false);
+        }
+        passed?;
         Ok(FaultyFile {
             file: self.opened(how, path)?,
             name,
@@ -390,7 +466,7 @@ impl HostSystem for FaultySystem {
 
     fn symlink_metadata(&self, path: &str) -> io::Result<Metadata> {
         self.pass(Call::OwnMetadata(listed(path)))?;
-        self.rt.symlink_metadata(path)
+        self.rt.symlink_metadata(self.trial.led(path))
     }
 
     fn copy(&self, from: &str, to: &str) -> io::Result<u64> {
@@ -424,7 +500,18 @@ impl HostSystem for FaultySystem {
     }
 
     fn canonicalize<B: Allocator>(&self, alloc: B, path: &str) -> io::Result<PathBuf<B>> {
+        self.pass(Call::RealPath(listed(path)))?;
         self.rt.canonicalize(alloc, path)
+    }
+
+    fn read_link<B: Allocator>(&self, alloc: B, path: &str) -> io::Result<PathBuf<B>> {
+        self.pass(Call::OwnPath(listed(path)))?;
+        let led = self.trial.led(path);
+        if led == path {
+            self.rt.read_link(alloc, path)
+        } else {
+            self.rt.canonicalize(alloc, led)
+        }
     }
 
     fn hard_link(&self, original: &str, link: &str) -> io::Result<()> {
@@ -442,7 +529,7 @@ impl HostSystem for FaultySystem {
     }
 }
 
-/// Nothing is printed.
+/// What is printed is compared and counted.
 impl Print for FaultySystem {
     fn print<D: Display + Drop>(&self, _value: D) -> io::Result<()> {
         Ok(())
@@ -453,7 +540,37 @@ impl Print for FaultySystem {
     }
 
     fn write_all(&self, _bytes: &[u8]) -> io::Result<()> {
-        self.pass(Call::Print)
+        Err(disorder())
+    }
+
+    fn write_some(&self, bytes: &[u8]) -> io::Result<usize>
+        ensures bound { IfOk result (λ n. n ≤ length bytes.now) }
+    {
+        self.pass(Call::Print)?;
+        self.trial.taken(bytes)
+    }
+}
+
+/// A pause takes no time, and is counted.
+impl Clock for FaultySystem {
+    fn monotonic(&self) -> io::Result<Duration> {
+        Err(disorder())
+    }
+
+    fn since_1970(&self) -> io::Result<Duration> {
+        Err(disorder())
+    }
+
+    fn sleep(&self, duration: Duration) {
+        let before = match self.trial.again.get() {
+            Again::Pauses(count) => count,
+            _ => 0,
+        };
+        if duration == Duration::from_millis(100) {
+            self.trial
+                .again
+                .set(Again::Pauses(before.saturating_add(1)));
+        }
     }
 }
 

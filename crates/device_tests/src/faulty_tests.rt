@@ -3,7 +3,7 @@
 ghost use Rattle.std.specs.Prelude.{◌<◌, ◌≡◌};
 
 use crate::board_tests::{Asked, call};
-use crate::faulty_system::{Again, Call, Fault, FaultySystem, Trial};
+use crate::faulty_system::{Again, Call, Fault, FaultySystem, PRINTED, Trial};
 use crate::file_tests::{Change, STORE, Sight, UNFINISHED, enter, is_seen, leave, make};
 use crate::tests::must;
 use outside::FileBoard;
@@ -106,6 +106,9 @@ pub(crate) const MADE: &[Sight] = &[
 /// No store.
 pub(crate) const NOTHING: &[Sight] = &[Sight::IsAbsent(STORE)];
 
+/// Neither a store nor one in the making.
+const NOTHING_AT_ALL: &[Sight] = &[Sight::IsAbsent(STORE), Sight::IsAbsent(UNFINISHED)];
+
 /// Each call of a store of sevens fails.
 pub(crate) const NO_CALL: &[(Ask, bool)] = &[
     (Read(7), false),
@@ -186,6 +189,14 @@ const OPENINGS: &[Case] = &[
         calls: NO_CALL,
         left: UNTOUCHED,
         again: Again::Bytes(0, 2048),
+        ..FOUND_CASE
+    },
+    Case {
+        name: "what is no plain file isn't opened",
+        folder: &[Change::Folder(STORE)],
+        faults: &[Fault::Meanwhile(Call::OpenToWrite(STORE), Change::File("kept", 7, 3))],
+        calls: NO_CALL,
+        left: &[Sight::IsAbsent("kept")],
         ..FOUND_CASE
     },
     Case {
@@ -270,11 +281,57 @@ const FOLDERS: &[Case] = &[
             Fault::FailsSo(Call::OpenToWrite(STORE), ErrorKind::PermissionDenied),
             Fault::Fails(Call::Sync(".")),
         ],
-        kinds: HARD,
+        kinds: &[
+            ErrorKind::Other,
+            ErrorKind::StorageFull,
+            ErrorKind::Interrupted,
+            ErrorKind::WouldBlock,
+            ErrorKind::PermissionDenied,
+        ],
         calls: NO_CALL,
         left: UNTOUCHED,
         ..FOUND_CASE
     },
+    Case {
+        name: "nobody tells whether a found store is at the end of a link",
+        faults: &[Fault::Fails(Call::OwnMetadata(STORE))],
+        kinds: ALL,
+        calls: NO_CALL,
+        left: UNTOUCHED,
+        ..FOUND_CASE
+    },
+    Case {
+        name: "the path at the end of a link can't be found",
+        folder: LINKED,
+        faults: &[Fault::Fails(Call::RealPath(STORE))],
+        kinds: HARD,
+        calls: NO_CALL,
+        left: &[Sight::Holds("kept/store", &[], 7, 2048, &[])],
+        ..FOUND_CASE
+    },
+    Case {
+        name: "the path at the end of a link may not be followed by us, or is no text, so a second name stays",
+        folder: TWICE_LINKED,
+        faults: &[Fault::Fails(Call::RealPath(STORE))],
+        kinds: &[ErrorKind::PermissionDenied, ErrorKind::InvalidFilename],
+        left: &[Sight::Holds(UNFINISHED, &[1], 7, 2047, &[])],
+        ..FOUND_CASE
+    },
+];
+
+/// A store at the end of a link.
+pub(crate) const LINKED: &[Change] = &[
+    Change::Folder("kept"),
+    Change::File("kept/store", 7, 2048),
+    Change::Link("kept/store", STORE),
+];
+
+/// The same, with a second name here.
+const TWICE_LINKED: &[Change] = &[
+    Change::Folder("kept"),
+    Change::File("kept/store", 7, 2048),
+    Change::Link("kept/store", STORE),
+    Change::SecondName("kept/store", UNFINISHED),
 ];
 
 /// What may be done with the file, and what it is opened for.
@@ -293,10 +350,15 @@ const ACCESSES: &[Case] = &[
         ..FOUND_CASE
     },
     Case {
-        name: "a store may only be read, and is opened to be read",
+        name: "a store may only be read, or has no room to be written, and is opened to be read",
         access: Access::Read,
         faults: &[Fault::Fails(Call::OpenToWrite(STORE))],
-        kinds: &[ErrorKind::PermissionDenied, ErrorKind::ReadOnlyFilesystem],
+        kinds: &[
+            ErrorKind::PermissionDenied,
+            ErrorKind::ReadOnlyFilesystem,
+            ErrorKind::StorageFull,
+            ErrorKind::QuotaExceeded,
+        ],
         calls: &[(Read(7), true), (Sync, true), (Write, false), (Print, true)],
         left: UNTOUCHED,
         ..FOUND_CASE
@@ -305,7 +367,11 @@ const ACCESSES: &[Case] = &[
         name: "a store can't be opened",
         access: Access::Read,
         faults: &[Fault::Fails(Call::OpenToWrite(STORE))],
-        kinds: HARD,
+        kinds: &[
+            ErrorKind::Other,
+            ErrorKind::Interrupted,
+            ErrorKind::WouldBlock,
+        ],
         calls: NO_CALL,
         left: UNTOUCHED,
         ..FOUND_CASE
@@ -328,84 +394,6 @@ const ACCESSES: &[Case] = &[
         calls: &[(Read(0), true), (Write, false), (Sync, true), (Print, true)],
         left: NOTHING,
         ..NEW_CASE
-    },
-];
-
-/// What the outputs of the process are.
-const OUTPUTS: &[Case] = &[
-    Case {
-        name: "an output is closed",
-        faults: &[Fault::Fails(Call::Metadata("/proc/self/fd/1"))],
-        kinds: &[ErrorKind::NotFound],
-        ..FOUND_CASE
-    },
-    Case {
-        name: "nobody tells what an output is",
-        faults: &[Fault::Fails(Call::Metadata("/proc/self/fd/2"))],
-        kinds: ALL,
-        calls: NO_PRINT,
-        left: UNTOUCHED,
-        ..FOUND_CASE
-    },
-    Case {
-        name: "the system has no names of streams",
-        faults: &[
-            Fault::Fails(Call::Metadata("/proc/self/fd/1")),
-            Fault::Fails(Call::Metadata("/proc/self/fd")),
-        ],
-        kinds: &[ErrorKind::NotFound],
-        calls: NO_PRINT,
-        left: UNTOUCHED,
-        ..FOUND_CASE
-    },
-    Case {
-        name: "the system has no names of streams, and there is no store",
-        faults: &[
-            Fault::Fails(Call::Metadata("/proc/self/fd/1")),
-            Fault::Fails(Call::Metadata("/proc/self/fd")),
-        ],
-        kinds: &[ErrorKind::NotFound],
-        ..NEW_CASE
-    },
-    Case {
-        name: "the standard output is the store",
-        faults: &[Fault::Leads("/proc/self/fd/1", STORE)],
-        calls: NO_PRINT,
-        left: UNTOUCHED,
-        ..FOUND_CASE
-    },
-    Case {
-        name: "the standard error is the store",
-        faults: &[Fault::Leads("/proc/self/fd/2", STORE)],
-        calls: NO_CALL,
-        left: UNTOUCHED,
-        ..FOUND_CASE
-    },
-    Case {
-        name: "the standard output is the store at the end of a link",
-        folder: &[
-            Change::Folder("kept"),
-            Change::File("kept/store", 7, 2048),
-            Change::Link("kept/store", STORE),
-        ],
-        faults: &[Fault::Leads("/proc/self/fd/1", "kept/store")],
-        calls: NO_PRINT,
-        left: &[Sight::Holds("kept/store", &[], 7, 2048, &[])],
-        ..FOUND_CASE
-    },
-    Case {
-        name: "the standard output is another file",
-        folder: &[Change::File(STORE, 7, 2050), Change::File("kept", 7, 2050)],
-        faults: &[Fault::Leads("/proc/self/fd/1", "kept")],
-        ..FOUND_CASE
-    },
-    Case {
-        name: "nobody tells whether there is a store",
-        faults: &[Fault::Fails(Call::Metadata(STORE))],
-        kinds: ALL,
-        calls: NO_PRINT,
-        left: UNTOUCHED,
-        ..FOUND_CASE
     },
 ];
 
@@ -483,7 +471,7 @@ const NAMINGS: &[Case] = &[
             ErrorKind::ReadOnlyFilesystem,
         ],
         calls: NO_MAKING,
-        left: &[Sight::IsAbsent(STORE), Sight::IsAbsent(UNFINISHED)],
+        left: NOTHING_AT_ALL,
         ..NEW_CASE
     },
     Case {
@@ -514,8 +502,19 @@ const NAMINGS: &[Case] = &[
         ],
         kinds: ALL,
         calls: NO_MAKING,
-        left: &[Sight::IsAbsent(UNFINISHED)],
+        left: NOTHING_AT_ALL,
         again: Again::Bytes(0, 2048),
+        ..NEW_CASE
+    },
+    Case {
+        name: "without second names the medium is full",
+        faults: &[
+            Fault::FailsSo(Call::Link(STORE), ErrorKind::PermissionDenied),
+            Fault::Fails(Call::Write(STORE)),
+        ],
+        kinds: ALL,
+        calls: NO_MAKING,
+        left: NOTHING_AT_ALL,
         ..NEW_CASE
     },
     Case {
@@ -524,9 +523,12 @@ const NAMINGS: &[Case] = &[
             Fault::FailsSo(Call::Link(STORE), ErrorKind::PermissionDenied),
             Fault::Fails(Call::Sync(".")),
         ],
-        kinds: ALL,
+        kinds: HARD,
         calls: NO_MAKING,
-        left: &[Sight::IsAbsent(UNFINISHED)],
+        left: &[
+            Sight::Holds(STORE, &[], 0, 2048, &[]),
+            Sight::IsAbsent(UNFINISHED),
+        ],
         again: Again::Name,
         ..NEW_CASE
     },
@@ -539,7 +541,7 @@ const MAKINGS: &[Case] = &[
         faults: &[Fault::Fails(Call::Sync(UNFINISHED))],
         kinds: ALL,
         calls: NO_MAKING,
-        left: NOTHING,
+        left: NOTHING_AT_ALL,
         again: Again::Bytes(0, 2048),
         ..NEW_CASE
     },
@@ -548,7 +550,7 @@ const MAKINGS: &[Case] = &[
         faults: &[Fault::Fails(Call::Write(UNFINISHED))],
         kinds: ALL,
         calls: NO_MAKING,
-        left: NOTHING,
+        left: NOTHING_AT_ALL,
         ..NEW_CASE
     },
     Case {
@@ -560,9 +562,22 @@ const MAKINGS: &[Case] = &[
         ..NEW_CASE
     },
     Case {
+        name: "the folder of a new store can't be opened by us",
+        faults: &[Fault::Fails(Call::Open("."))],
+        kinds: &[ErrorKind::PermissionDenied],
+        ..NEW_CASE
+    },
+    Case {
+        name: "the folder of a new store can't be synced by us, and its other name goes",
+        faults: &[Fault::Fails(Call::Sync("."))],
+        kinds: &[ErrorKind::InvalidInput, ErrorKind::Unsupported],
+        again: Again::Name,
+        ..NEW_CASE
+    },
+    Case {
         name: "the folder of a new store can't be opened",
         faults: &[Fault::Fails(Call::Open("."))],
-        kinds: ALL,
+        kinds: HARD,
         calls: NO_MAKING,
         left: &[Sight::Holds(STORE, &[], 0, 2048, &[])],
         ..NEW_CASE
@@ -570,7 +585,14 @@ const MAKINGS: &[Case] = &[
     Case {
         name: "the sync of the folder of a new store fails",
         faults: &[Fault::Fails(Call::Sync("."))],
-        kinds: ALL,
+        kinds: &[
+            ErrorKind::Other,
+            ErrorKind::StorageFull,
+            ErrorKind::Interrupted,
+            ErrorKind::WouldBlock,
+            ErrorKind::ReadOnlyFilesystem,
+            ErrorKind::PermissionDenied,
+        ],
         calls: NO_MAKING,
         left: &[Sight::Holds(STORE, &[], 0, 2048, &[])],
         again: Again::Name,
@@ -586,14 +608,21 @@ fn asked_by(ask: &Ask) -> Asked<'static> {
         Ask::WriteLast => Asked::Write(2047, &[9]),
         Ask::WriteFour => Asked::Write(0, &[1, 2, 3, 4]),
         Ask::Sync => Asked::Sync,
-        Ask::Print => Asked::Print(b"FOR HIRE\n"),
+        Ask::Print => Asked::Print(PRINTED),
     }
 }
 
-/// Whether a call is Ok, and a read gives what it should.
-fn is_ok<L: Ledger>(device: &mut FileBoard<FaultySystem>, ask: &Ask, steps: &mut Steps<L>) -> bool {
+/// Whether a call is Ok, a read gives what it should, and a print prints its nine bytes once.
+fn is_ok<L: Ledger>(
+    device: &mut FileBoard<FaultySystem>,
+    trial: &Trial,
+    ask: &Ask,
+    steps: &mut Steps<L>,
+) -> bool {
+    let before = trial.printed();
     match (call(device, &asked_by(ask), steps), ask) {
         (Ok(bytes), Ask::Read(want)) => bytes[0] == *want,
+        (Ok(_), Ask::Print) => trial.printed().checked_sub(before) == Some(9),
         (answer, _) => answer.is_ok(),
     }
 }
@@ -622,12 +651,12 @@ fn must_come<L: Ledger>(
     let trial = Trial::new(rt.alloc(), case.faults, kind)?;
     let mut device = device_of(case, FaultySystem { rt, trial });
     for ask in case.before {
-        must(is_ok(&mut device, ask, &mut steps), case.name, 0)?;
+        must(is_ok(&mut device, trial, ask, &mut steps), case.name, 0)?;
     }
     trial.begin();
     for number in 0..case.calls.len() {
         let (ask, want) = &case.calls[number];
-        let came = is_ok(&mut device, ask, &mut steps) == *want;
+        let came = is_ok(&mut device, trial, ask, &mut steps) == *want;
         must(came, case.name, number as u64 + 1)?;
     }
     must(trial.again() == case.again, case.name, 99)
@@ -681,11 +710,6 @@ fn folders_that_are_not_synced(rt: HostRuntime) -> Result<(), Fail> {
 #[test]
 fn stores_to_read_and_to_write(rt: HostRuntime) -> Result<(), Fail> {
     play_all(rt, ACCESSES)
-}
-
-#[test]
-fn outputs_that_are_the_store(rt: HostRuntime) -> Result<(), Fail> {
-    play_all(rt, OUTPUTS)
 }
 
 #[test]

@@ -20,6 +20,8 @@ mod log_tests;
 #[cfg(test)]
 mod name_tests;
 #[cfg(test)]
+mod output_tests;
+#[cfg(test)]
 mod tests;
 #[cfg(test)]
 mod word_tests;

@@ -1,9 +1,8 @@
 //! The names of a store, its mode, and what others do to them meanwhile. The cases are those of the system of which
 //! chosen calls fail.
 use crate::faulty_system::{Again, Call, Fault};
-use crate::faulty_tests::Ask::{Print, Read, Sync, Write};
 use crate::faulty_tests::{
-    Ask, Case, FOUND_CASE, HARD, MADE, NEW_CASE, NO_CALL, NO_MAKING, NO_PRINT, UNTOUCHED, play_all,
+    ALL, Case, FOUND_CASE, HARD, NEW_CASE, NO_CALL, NO_MAKING, UNTOUCHED, play_all,
 };
 use crate::file_tests::{Change, STORE, Sight, UNFINISHED};
 use std::fs;
@@ -11,8 +10,38 @@ use std::io::ErrorKind;
 use std::os::unix::fs::MetadataExt;
 use std::test::Fail;
 
-/// Another file comes, or takes a name, while a new store gets its name.
+/// Another file comes, or takes a name, while a store is opened or a new one gets its name.
 const MEANWHILE: &[Case] = &[
+    Case {
+        name: "another's file has the store's name as the one that was opened is locked",
+        folder: &[Change::File(STORE, 7, 2048), Change::File("kept", 7, 2050)],
+        faults: &[Fault::Meanwhile(Call::Lock(STORE), Change::Rename("kept", STORE))],
+        calls: NO_CALL,
+        left: UNTOUCHED,
+        ..FOUND_CASE
+    },
+    Case {
+        name: "another file has the name of what a cut left as that is opened",
+        folder: &[Change::File(UNFINISHED, 9, 700), Change::File("kept", 7, 3)],
+        faults: &[Fault::Meanwhile(
+            Call::OpenToWrite(UNFINISHED),
+            Change::Rename("kept", UNFINISHED),
+        )],
+        calls: NO_MAKING,
+        left: &[
+            Sight::IsAbsent(STORE),
+            Sight::Holds(UNFINISHED, &[], 7, 3, &[]),
+        ],
+        ..NEW_CASE
+    },
+    Case {
+        name: "nobody tells whether a cut left anything",
+        faults: &[Fault::Fails(Call::OwnMetadata(UNFINISHED))],
+        kinds: ALL,
+        calls: NO_MAKING,
+        left: &[Sight::IsAbsent(STORE)],
+        ..NEW_CASE
+    },
     Case {
         name: "where there are no second names, another's file has the store's name meanwhile",
         faults: &[
@@ -159,6 +188,16 @@ const SECOND_NAMES: &[Case] = &[
         ..FOUND_CASE
     },
     Case {
+        name: "the only name of a store stays, whatever it is",
+        folder: &[Change::File(STORE, 7, 2050), Change::File(UNFINISHED, 9, 3)],
+        faults: &[Fault::Leads(UNFINISHED, STORE)],
+        left: &[
+            Sight::Holds(STORE, &[1], 7, 2049, &[]),
+            Sight::Holds(UNFINISHED, &[], 9, 3, &[]),
+        ],
+        ..FOUND_CASE
+    },
+    Case {
         name: "nobody tells whether there is a second name",
         faults: &[Fault::Fails(Call::OwnMetadata(UNFINISHED))],
         kinds: HARD,
@@ -167,132 +206,6 @@ const SECOND_NAMES: &[Case] = &[
         ..FOUND_CASE
     },
 ];
-
-/// An output under the name of a store in the making.
-const OUTPUTS: &[Case] = &[
-    Case {
-        name: "the standard output is a store in the making, and there is no store",
-        folder: &[Change::File(UNFINISHED, 9, 3)],
-        faults: &[Fault::Leads("/proc/self/fd/1", UNFINISHED)],
-        calls: &[
-            (Print, false),
-            (Read(0), false),
-            (Write, false),
-            (Sync, false),
-        ],
-        left: &[
-            Sight::IsAbsent(STORE),
-            Sight::Holds(UNFINISHED, &[], 9, 3, &[]),
-        ],
-        ..NEW_CASE
-    },
-    Case {
-        name: "the standard error is a store in the making, and there is no store",
-        folder: &[Change::File(UNFINISHED, 9, 3)],
-        faults: &[Fault::Leads("/proc/self/fd/2", UNFINISHED)],
-        calls: NO_MAKING_AT_ALL,
-        left: &[
-            Sight::IsAbsent(STORE),
-            Sight::Holds(UNFINISHED, &[], 9, 3, &[]),
-        ],
-        ..NEW_CASE
-    },
-    Case {
-        name: "the standard output has the name of a store in the making beside a store",
-        folder: &[Change::File(STORE, 7, 2050), Change::File(UNFINISHED, 9, 3)],
-        faults: &[Fault::Leads("/proc/self/fd/1", UNFINISHED)],
-        calls: NO_PRINT,
-        left: UNTOUCHED,
-        ..FOUND_CASE
-    },
-    Case {
-        name: "the standard output is another file than what a cut left",
-        folder: &[
-            Change::File("kept", 7, 2050),
-            Change::File(UNFINISHED, 9, 3),
-        ],
-        faults: &[Fault::Leads("/proc/self/fd/1", "kept")],
-        ..NEW_CASE
-    },
-];
-
-/// No call is Ok, not even a read.
-const NO_MAKING_AT_ALL: &[(Ask, bool)] = &[
-    (Write, false),
-    (Read(0), false),
-    (Sync, false),
-    (Print, false),
-];
-
-/// Prints that fail, as each must.
-const PRINTS: &[Case] = &[
-    Case {
-        name: "a print fails beside a store",
-        faults: &[Fault::Fails(Call::Print)],
-        kinds: HARD,
-        calls: &[
-            (Print, false),
-            (Read(7), true),
-            (Print, false),
-            (Write, true),
-            (Sync, true),
-        ],
-        ..FOUND_CASE
-    },
-    Case {
-        name: "a print fails, and there is no store",
-        faults: &[Fault::Fails(Call::Print)],
-        kinds: HARD,
-        calls: &[(Print, false), (Read(0), true), (Write, true), (Sync, true)],
-        left: MADE,
-        ..NEW_CASE
-    },
-];
-
-/// A file of the system, and one with its inode number on another device. The root of a file system that is kept in
-/// memory often has the number 1.
-const TWINS: &[(&[Fault], &str, &str)] = &[
-    (
-        &[
-            Fault::Leads(STORE, "/proc"),
-            Fault::Leads("/proc/self/fd/1", "/dev"),
-        ],
-        "/proc",
-        "/dev",
-    ),
-    (
-        &[
-            Fault::Leads(STORE, "/proc"),
-            Fault::Leads("/proc/self/fd/1", "/sys"),
-        ],
-        "/proc",
-        "/sys",
-    ),
-    (
-        &[
-            Fault::Leads(STORE, "/proc"),
-            Fault::Leads("/proc/self/fd/1", "/dev/shm"),
-        ],
-        "/proc",
-        "/dev/shm",
-    ),
-    (
-        &[
-            Fault::Leads(STORE, "/proc"),
-            Fault::Leads("/proc/self/fd/1", "/dev/pts"),
-        ],
-        "/proc",
-        "/dev/pts",
-    ),
-];
-
-/// Whether two names lead to files of one inode number on two devices.
-fn are_twins(rt: HostRuntime, one: &str, other: &str) -> bool {
-    match (fs::metadata(&rt, one), fs::metadata(&rt, other)) {
-        (Ok(one), Ok(other)) => one.ino() == other.ino() && one.dev() != other.dev(),
-        _ => false,
-    }
-}
 
 #[test]
 fn names_that_another_takes_meanwhile(rt: HostRuntime) -> Result<(), Fail> {
@@ -313,32 +226,4 @@ fn modes_of_new_stores(rt: HostRuntime) -> Result<(), Fail> {
 #[test]
 fn second_names_of_stores(rt: HostRuntime) -> Result<(), Fail> {
     play_all(rt, SECOND_NAMES)
-}
-
-#[test]
-fn outputs_that_are_a_store_in_the_making(rt: HostRuntime) -> Result<(), Fail> {
-    play_all(rt, OUTPUTS)
-}
-
-#[test]
-fn prints_that_fail(rt: HostRuntime) -> Result<(), Fail> {
-    play_all(rt, PRINTS)
-}
-
-#[test]
-fn outputs_on_another_device(rt: HostRuntime) -> Result<(), Fail> {
-    for (faults, one, other) in TWINS {
-        if are_twins(rt, *one, *other) {
-            let case = Case {
-                name: "an output has the store's number of inode on another device",
-                faults: *faults,
-                calls: &[(Print, true)],
-                left: UNTOUCHED,
-                ..FOUND_CASE
-            };
-            return play_all(rt, &[case]);
-        }
-    }
-    println!(rt; "skipped: no two files of one number of inode on two devices")?;
-    Ok(())
 }
