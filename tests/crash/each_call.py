@@ -146,26 +146,32 @@ class Sealing(Subject):
 
 
 class SecondName(Sealing):
-    """A first sealing, or one over a sealing that was killed at a call: a kill may leave `taxi.store.new` as a second name of the
-    store. Behind the start that comes next the other name is emptied."""
+    """A first sealing, or one over a sealing that was killed at a call, here or where a link leads: a kill may leave
+    `taxi.store.new` as a second name of the store, where that lies. Behind the start that comes next the other name is
+    emptied."""
 
-    def __init__(self, trial, program, killed=None):
+    def __init__(self, trial, program, killed=None, by_link=False):
         super().__init__(trial, program, 0)
         self.what, self.killed = f"a first sealing{f' that was killed at {killed}, and the next one' if killed else ''}", killed
+        self.linked, self.what = by_link, f"{self.what}{', by a link' if by_link else ''}"
+        self.names = [(trial.within / "medium" if by_link else self.folder) / name for name in ("taxi.store", "taxi.store.new")]
 
     def fresh(self):
         super().fresh()
         if self.killed:
             self.call(*self.words, inject=f"{self.killed}:signal=KILL:when=1")
+        if self.linked:
+            for name in self.names:
+                (self.folder / name.name).rename(name)
+            (self.folder / "taxi.store").symlink_to("../medium/taxi.store")
 
     def has_second_name(self):
-        names = [self.folder / name for name in ("taxi.store", "taxi.store.new")]
-        return all(name.exists() for name in names) and os.path.samefile(*names)
+        return all(name.exists() for name in self.names) and os.path.samefile(*self.names)
 
     def look(self, what):
         """A start that only reads leaves a second name, the next sealing takes it away, and each one leaves another file that
         has it."""
-        expect, other = self.trial.expect, self.folder / "taxi.store.new"
+        expect, other = self.trial.expect, self.names[1]
         if self.has_second_name():
             self.count("a second name")
             self.call("totals")
@@ -233,7 +239,8 @@ def try_meter(trial, program):
     first = SecondName(trial, program)
     first.kill_each()
     for name in sorted({name for name, _ in first.calls() if name.startswith("unlink")}):
-        SecondName(trial, program, name).kill_each()
+        for by_link in (False, True):
+            SecondName(trial, program, name, by_link).kill_each()
     for before in (0, 1):
         Sealing(trial, program, before).fail_each()
     Sealing(trial, program, 1, by_link=True).fail_each()
