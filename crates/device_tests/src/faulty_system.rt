@@ -311,13 +311,14 @@ impl Trial {
         if PRINTED.get(printed % 9..) != Some(bytes) {
             return Err(disorder());
         }
-        let mut count = bytes.len();
+        let mut most = bytes.len();
         for fault in self.faults {
             if let Fault::Full(first, later) = fault {
                 self.refuse(if printed == 0 { *first } else { *later })?;
-                count = count.min(1);
+                most = 1;
             }
         }
+        let count = most.min(bytes.len());
         self.printed.set(printed.saturating_add(count));
         Ok(count)
     }
