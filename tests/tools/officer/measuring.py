@@ -32,7 +32,7 @@ def made(tariff, params, folder, words):
     began = time.monotonic()
     constant = re.search(r"^constant (\d+)", params, re.MULTILINE)[1]
     (folder / "taxi.params").write_text(params)
-    words = ["drives", tariff, constant, folder / "kit", "--params", folder / "taxi.params", *words]
+    words = ["drives", tariff, constant, folder / "kit", "--params", folder / "taxi.params", "--seed", "1", *words]
     subprocess.run([TOP / "tools/verify", *words], stdout=subprocess.DEVNULL, check=True)
     return time.monotonic() - began
 

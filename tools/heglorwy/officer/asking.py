@@ -117,9 +117,12 @@ class Program:
 
     def explained(self, text, hirings):
         """How the fares of hirings come about under a sound tariff."""
-        if not hirings:
-            return []
-        printed = self.well("explain", "asked", "hirings", "params", asked=text, hirings=drive_of(hirings))
+        return self.explained_drive(drive_of(hirings), text) if hirings else []
+
+    def explained_drive(self, drive, text=None):
+        """How the fares of a drive come about, under a sound tariff or the right one."""
+        texts = {"asked": text or self.meter.tariff, "hirings": drive, "params": self.meter.params}
+        printed = self.well("explain", *texts, **texts)
         self.sealed = None  # the file of the tariff is another one now
         return [told_of(part.splitlines()) for part in printed.split("END\n")[:-1]]
 

@@ -1,17 +1,20 @@
 """The kit: the drives of a verification, and the list that says what each is for."""
 
+import random
 import re
+import secrets
 from typing import NamedTuple
 
 from heglorwy.drives import SECOND
 from heglorwy.officer.asking import Program
 from heglorwy.officer.choosing import Beside, Choice
 from heglorwy.officer.fixed import Fixed, fixed, over_cross_over
-from heglorwy.officer.hirings import drive_file
 from heglorwy.officer.joining import Joining
 from heglorwy.officer.levels import NOT_PERMITTED, NOT_TOLD
 from heglorwy.officer.listing import listing
 from heglorwy.officer.matrix import Case, Matrix
+from heglorwy.officer.meter_part import meter_part
+from heglorwy.officer.moving import Moving
 from heglorwy.officer.search import Search
 from heglorwy.officer.turns import turns_of
 from heglorwy.program import Refused, Scratch
@@ -19,6 +22,7 @@ from heglorwy.tariff_parts import of_kind
 
 HALF_A_YEAR = 182 * 86_400  # seconds: whole weeks
 MINUTES = 60 * SECOND  # ticks
+SEEDS = 1_000_000
 
 
 class Asked(NamedTuple):
@@ -29,6 +33,16 @@ class Asked(NamedTuple):
     is_on_bench: bool
     with_days: bool
     with_expiry: bool
+    seed: int
+
+    @property
+    def words(self):
+        """The words that ask for it."""
+        flags = {"--bench": self.is_on_bench, "--days": self.with_days, "--expiry": self.with_expiry}
+        numbers = {"--seed": self.seed, "--fastest": self.fastest, "--longest": self.longest // MINUTES}
+        return " ".join(
+            [*(f"{name} {number}" for name, number in numbers.items()), *(name for name in flags if flags[name])]
+        )
 
 
 class Kit:
@@ -48,7 +62,7 @@ class Kit:
         return self.search.level(case.turn, hiring, right, wrong)
 
     def make(self):
-        """Finds the hirings, and gives the places of those that are chosen."""
+        """Finds the hirings for the tariff, and gives the places of those that are chosen."""
         for purpose, hiring in fixed(self.program, self.search.fast, self.asked.with_expiry):
             self.matrix.add(hiring, purpose)
         for turn in turns_of(self.program.tariff, self.asked.with_days):
@@ -60,7 +74,7 @@ class Kit:
         chosen = self.chosen()
         for case in list(self.matrix.cases.values()):
             self.matrix.tried(case, chosen)
-        chosen = self.chosen(among=chosen)
+        chosen = Moving(self, random.Random(f"{self.asked.seed} moving")).moved(self.chosen(among=chosen))
         self.program.explain([self.matrix.hirings[at] for at in chosen])
         return chosen
 
@@ -132,23 +146,32 @@ class Kit:
             self.matrix.add(hiring._replace(second=moved))
 
 
+def made(taxi, words):
+    """The list and the drives of a kit."""
+    seed = secrets.randbelow(SEEDS) if words.seed is None else words.seed
+    asked = Asked(words.fastest, words.longest * MINUTES, words.bench, words.days, words.expiry, seed)
+    program = Program(taxi, words)
+    part = meter_part(program, asked)
+    kit = Kit(program, asked)
+    return listing(kit, kit.make(), part)
+
+
 def drives(words):
     """Writes the drives and their list into a new folder; gives the list."""
     with Scratch("taxi") as taxi:
-        kit = Kit(Program(taxi, words), Asked(words.fastest, words.longest * MINUTES, words.bench, words.days, words.expiry))
-        made = listing(kit, kit.make())
-    write(words.folder, made)
-    return made.text, 0
+        kit = made(taxi, words)
+    write(words.folder, kit)
+    return kit.text, 0
 
 
-def write(folder, made):
+def write(folder, kit):
     """Writes a list and its drives into a folder that is new or empty."""
     try:
         folder.mkdir(parents=True, exist_ok=True)
         if any(folder.iterdir()):
             raise Refused(2, f"{folder} isn't empty")
-        for name, hiring, comments in made.drives:
-            (folder / name).write_bytes(drive_file(hiring, comments))
-        (folder / "list.txt").write_text(made.text)
+        for drive in kit.drives:
+            (folder / drive.name).write_bytes(drive.text)
+        (folder / "list.txt").write_text(kit.text)
     except OSError as error:
         raise Refused(7, f"{error.filename}: {error.strerror}") from None

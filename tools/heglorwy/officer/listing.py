@@ -3,15 +3,20 @@
 import datetime
 import hashlib
 import itertools
+import random
 import re
 from typing import NamedTuple
 
 from heglorwy.drives import SECOND
+from heglorwy.officer.hirings import drive_file
 from heglorwy.officer.levels import NOT_TOLD, SAID, SHORT_OF_STEPS
+from heglorwy.officer.meter_part import drive_text
+from heglorwy.officer.ride import moment, words_of
 from heglorwy.tables import money
 from heglorwy.tariff_parts import atoms_in, of_kind
 
 OF_TIME = {"minute", "day", "date", "holiday"}
+MOST_ACTS = 60  # of a hiring, which are told one by one
 MOST_MOMENTS = 120  # at which a hiring is tried, to see whether the clock has to be set for it
 SLUGS = [
     (r"lines? (\d+)", r"line\1"), (r"supplement (\d+)", r"supplement\1"), (r"numbers of supplements", "supplements"),
@@ -20,11 +25,24 @@ SLUGS = [
 ]
 
 
+class KitDrive(NamedTuple):
+    """A drive of a kit: its name and text, the number of its first hiring, and what each of its hirings is for."""
+
+    name: str
+    text: bytes
+    first: int
+    purposes: list
+    is_for_meter: bool
+
+
 class Made(NamedTuple):
-    """The list, and the drives: the name of each, its hiring, and its comments."""
+    """The list, the drives, and what no drive tells, in words."""
 
     text: str
     drives: list
+    untold: list
+    left_out: list
+    words: str
 
 
 def duration(ticks):
@@ -35,11 +53,6 @@ def duration(ticks):
 
 def seconds(ticks):
     return f"{ticks // SECOND}.{ticks % SECOND} s"
-
-
-def local(meter, second):
-    begin = datetime.datetime(1970, 1, 1) + datetime.timedelta(seconds=second + meter.offset_at(second))
-    return f"{begin:%a} {begin}".lower()
 
 
 def slug(purpose):
@@ -85,11 +98,12 @@ def doing(meter, hiring):
 
 
 class Lister:
-    """Writes the list of a kit and of the hirings that were chosen."""
+    """Writes the list of a kit: of the hirings for the tariff that were chosen, and of those for the meter."""
 
-    def __init__(self, kit, chosen):
-        self.kit, self.program, self.meter = kit, kit.program, kit.program.meter
+    def __init__(self, kit, chosen, part):
+        self.kit, self.program, self.meter, self.part = kit, kit.program, kit.program.meter, part
         self.hirings = sorted((kit.matrix.hirings[at] for at in chosen), key=lambda hiring: (hiring.start, hiring))
+        random.Random(f"{kit.asked.seed} order").shuffle(self.hirings)
         self.places = [kit.matrix.hirings.index(hiring) for hiring in self.hirings]
         self.purposes = {hiring: list(kit.matrix.purposes[hiring]) for hiring in self.hirings}
         self.untold, self.weaker = [], []
@@ -98,13 +112,13 @@ class Lister:
     def share(self):
         """Gives each case to the first hiring that tells it best; keeps those that none tells, or tells less well."""
         for title, row in self.kit.matrix.rows.items():
-            best = max((row[at] for at in self.places), default=NOT_TOLD)
+            best = max((row.get(at, NOT_TOLD) for at in self.places), default=NOT_TOLD)
             if best == NOT_TOLD:
                 hangs = "only hirings tell it that a right meter fails by a pulse or a second of its clock (--bench)"
                 reason = hangs if max(row.values(), default=NOT_TOLD) > NOT_TOLD else self.kit.reasons.get(title)
                 self.untold.append((title, reason or "no fare shows it"))
                 continue
-            at = next(at for at in self.places if row[at] == best)
+            at = next(at for at in self.places if row.get(at) == best)
             self.purposes[self.kit.matrix.hirings[at]].append(f"{title} ({SAID[best]})")
             turn = self.kit.matrix.cases[title].turn
             if turn and best < turn.wanted and best != SHORT_OF_STEPS:
@@ -136,48 +150,102 @@ class Lister:
                 yield second
 
     def head(self):
-        meter, asked = self.meter, self.kit.asked
-        total = sum(hiring.ticks for hiring in self.hirings)
-        longest = max((hiring.ticks for hiring in self.hirings), default=0)
+        meter, asked, rides = self.meter, self.kit.asked, self.part.drives
+        ticks = [[hiring.ticks for hiring in self.hirings], [ride.ticks for ride in rides]]
+        counts = [len(self.hirings), sum(ride.count for ride in rides)]
+        longest = max(itertools.chain(*ticks), default=0)
         where = "for a bench that feeds pulses and ticks in step" if asked.is_on_bench else "for the road or a bench"
+        said = [
+            f"{count} for the {name}, {duration(sum(each))}" for count, name,
+            each in zip(counts, ("tariff", "meter"), ticks)
+        ]
         return [
-            f"{len(self.hirings)} hirings, {duration(total)} of driving; the longest takes {duration(longest)}",
-            f"{where}, at up to {asked.fastest} km/h and {asked.longest // (60 * SECOND)} minutes a hiring",
+            f"{sum(counts)} hirings, {duration(sum(map(sum, ticks)))} of driving;"
+            f" the longest takes {duration(longest)}",
+            f"{where}: {asked.words}",
+            f"hirings: {said[0]}; {said[1]}",
             f"constant {meter.constant}, mode {meter.mode}, hold {meter.hold} s, secured {meter.secured}",
             f"tariff, SHA-256: {hashlib.sha256(meter.tariff).hexdigest()}",
-            f"wrong meters that are told: {len(self.kit.matrix.rows) - len(self.untold)}, not told: {len(self.untold)}",
+            f"wrong tariffs that are told: {len(self.kit.matrix.rows) - len(self.untold)},"
+            f" not told: {len(self.untold)}",
         ]
 
     def entry(self, number, hiring, name):
-        """The lines of the list on a hiring."""
+        """The lines of the list on a hiring for the tariff."""
         clock = "set the clock" if self.needs_clock(hiring) else "at any time"
         keys = "".join(f", then key {key}, which is refused" for key in hiring.before)
-        yield f"{number}. {name}: {clock}: {local(self.meter, hiring.start)}, T{hiring.position} Z{hiring.zone}{keys}"
+        yield f"{number}. {name}: {clock}: {moment(self.meter, hiring.start)}, T{hiring.position} Z{hiring.zone}{keys}"
         far = 1_000_000 * hiring.pulses // self.meter.constant
         yield f"   {doing(self.meter, hiring)}"
         yield f"   {seconds(hiring.ticks)}, {money(far, 3)} m"
         yield from (f"   - {purpose}" for purpose in self.purposes[hiring])
 
+    def meter_entry(self, number, ride, name):
+        """The lines of the list on a drive for the meter, of which each hiring has its number."""
+        last = number + ride.count - 1
+        span = f"{number}" if ride.count == 1 else f"{number} to {last}"
+        clock = "set the clock" if ride.needs_clock else "at any time"
+        yield f"{span}. {name}: {clock}: {moment(self.meter, ride.acts[0].value)}"
+        for at, acts in enumerate(hirings_in(ride.acts)):
+            yield f"   {f'{number + at}: ' if ride.count > 1 else ''}{'; '.join(shortened(self.meter, acts))}"
+        yield f"   {seconds(ride.ticks)}"
+        for at, purposes in enumerate(ride.purposes, number):
+            yield from (f"   - {f'{at}: ' if ride.count > 1 else ''}{purpose}" for purpose in purposes)
+
     def made(self):
-        lines, made = self.head(), []
-        width = max(2, len(str(len(self.hirings))))
-        for number, hiring in enumerate(self.hirings, 1):
-            name = f"{number:0{width}}_{slug((self.purposes[hiring] or [''])[0])}.drive"
+        lines, made, number = self.head(), [], 1
+        width = max(2, len(str(len(self.hirings) + sum(ride.count for ride in self.part.drives))))
+        for hiring in self.hirings:
+            purposes = self.purposes[hiring]
+            name = f"{number:0{width}}_{slug((purposes or [''])[0])}.drive"
             lines += ["", *self.entry(number, hiring, name)]
-            made.append((name, hiring, self.purposes[hiring]))
+            made.append(KitDrive(name, drive_file(hiring, purposes), number, [purposes], False))
+            number += 1
+        for ride in self.part.drives:
+            name = f"{number:0{width}}_{ride.name}.drive"
+            lines += ["", *self.meter_entry(number, ride, name)]
+            text = drive_text(self.meter, ride, itertools.chain(*ride.purposes))
+            made.append(KitDrive(name, text, number, ride.purposes, True))
+            number += ride.count
+        return self.ended(lines, made)
+
+    def ended(self, lines, made):
+        """The list with what is told less well, or by no drive."""
         weaker = [f"{title}: {SAID[best]}{self.because(title)}" for title, best in self.weaker]
+        untold = [f"{title}: {reason}" for title, reason in self.untold]
+        left_out = [*self.kit.notes, *self.part.notes]
         for title, found in (
-            ("Told less well than it should be:", weaker),
-            ("Told by no drive:", [f"{title}: {reason}" for title, reason in self.untold]),
-            ("Left out:", self.kit.notes),
+            ("Told less well than it should be:", weaker), ("Told by no drive:", untold), ("Left out:", left_out),
         ):
             lines += ["", title, *(f"- {text}" for text in found)] if found else []
-        return Made("".join(f"{line}\n" for line in lines), made)
+        return Made("".join(f"{line}\n" for line in lines), made, untold, left_out, self.kit.asked.words)
 
     def because(self, title):
         reason = self.kit.reasons.get(title)
         return f": {reason}" if reason else ""
 
 
-def listing(kit, chosen):
-    return Lister(kit, chosen).made()
+def hirings_in(acts):
+    """The acts of each hiring; where the drive begins is said before."""
+    found, last = [], []
+    for act in acts[1:]:
+        last.append(act)
+        if (act.what, act.value) == ("key", "C"):
+            found.append(last)
+            last = []
+    return found
+
+
+def shortened(meter, acts):
+    """Acts in words. Many short ones are not told one by one."""
+    if len(acts) <= MOST_ACTS:
+        return [words_of(meter, act) for act in acts]
+    ways = [act for act in acts if act.what == "go"]
+    metres, ticks = sum(act.value * act.ticks / 36 for act in ways), sum(act.ticks for act in ways)
+    return [
+        "Hire", f"creep and stand by turns, {metres:.0f} m in {seconds(ticks)}, as the drive has it", "Stop", "Clear"
+    ]
+
+
+def listing(kit, chosen, part):
+    return Lister(kit, chosen, part).made()

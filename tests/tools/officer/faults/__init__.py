@@ -8,7 +8,8 @@ ORDINARY, RARE, SMALL, UNSEEN = "ordinary", "rare", "small", "unseen"
 
 
 class Watched(FractionMeter):
-    """The reference meter, which also knows the trip before and counts hirings and losses of supply since it was powered."""
+    """The reference meter, which also knows the trip before and counts hirings and losses of supply since it was
+    powered."""
 
     def __init__(self, *words):
         super().__init__(*words)
@@ -31,8 +32,8 @@ class Watched(FractionMeter):
 
 
 class Fault(NamedTuple):
-    """A wrong meter: its name, what is changed, and how well a kit has to tell it: ORDINARY by each seed; RARE, on a few dates,
-    minutes or speeds alone, by some; SMALL and UNSEEN by none, for the reason."""
+    """A wrong meter: its name, what is changed, and how well a kit has to tell it: ORDINARY by each seed; RARE, on a
+    few dates, minutes or speeds alone, by some; SMALL and UNSEEN by none, for the reason."""
 
     name: str
     changes: tuple  # of names of methods and functions, which get the meter, the method before and its arguments

@@ -52,7 +52,9 @@ def mean_of(ticks):
 def by_totals(my, was, pulses, count):
     """Mode S of the whole trip: the greater of all distance and all time."""
     trip = my.trip
-    rate, sums = my.rate(my.context(my.begun, trip.pulses, trip.ticks)), trip.notes.setdefault("sums", [Fraction(0), Fraction(0)])
+    rate, sums = my.rate(my.context(my.begun, trip.pulses, trip.ticks)), trip.notes.setdefault(
+        "sums", [Fraction(0), Fraction(0)]
+    )
     sums[0] += my.by_distance(rate, pulses) * count
     sums[1] += my.by_time(rate) * count
     trip.charged = max(sums)
@@ -129,11 +131,15 @@ STATE = [
     wrong("the cover is given in the first hiring since the power-up alone",
           begin=of_trip(lambda my, trip: my.hirings > 1 and put(trip, covers=0))),
     wrong("the distance isn't cleared between hirings",
-          begin=of_trip(lambda my, trip: my.before and trip.notes.update(far=my.before.pulses + my.before.notes.get("far", 0))),
+          begin=of_trip(
+              lambda my, trip: my.before and trip.notes.update(far=my.before.pulses + my.before.notes.get("far", 0))
+          ),
           context=lambda my, was, second, pulses=0, ticks=0: was(
               second, pulses + (my.trip.notes.get("far", 0) if my.trip else 0), ticks)),
     wrong("the rest of a step goes to the next passenger", SMALL, A_STEP, begin=of_trip(
-        lambda my, trip: my.before and put(trip, charged=max(0, my.before.charged - my.before.covers) % my.step["amount"]))),
+        lambda my, trip: my.before and put(
+            trip, charged=max(0, my.before.charged - my.before.covers) % my.step["amount"]
+        ))),
     wrong("the minimum fare is chosen at the end", tariff="night", fare_of=lambda my, was, trip: max(
         trip.fee + my.steps(trip) * my.step["amount"],
         least.parts["amount"] if (least := my.least(my.context(my.clock))) else 0)),
@@ -141,12 +147,20 @@ STATE = [
         trip.fee + my.steps(trip) * my.step["amount"], trip.least - my.extras_of(trip))),
 ]
 CALENDARS = [
-    wrong("Saturday is Sunday in summer time", weekday=lambda my, was, at: 7 if was(at) == 6 and is_summer(my) else was(at)),
-    wrong("Sunday is Monday in summer time", weekday=lambda my, was, at: 1 if was(at) == 7 and is_summer(my) else was(at)),
+    wrong(
+        "Saturday is Sunday in summer time", weekday=lambda my, was,
+        at: 7 if was(at) == 6 and is_summer(my) else was(at)
+    ),
+    wrong(
+        "Sunday is Monday in summer time", weekday=lambda my, was, at: 1 if was(at) == 7 and is_summer(my) else was(at)
+    ),
     wrong("Tuesday is Sunday", weekday=lambda my, was, at: 7 if was(at) == 2 else was(at)),
     wrong("Friday's night begins at 21:00",
           minute=lambda my, was, at: 1320 if at.isoweekday() == 5 and was(at) >= 1260 else was(at)),
-    wrong("1 February to 15 July are holidays", is_holiday=lambda my, was, at: was(at) or (2, 1) <= (at.month, at.day) <= (7, 15)),
+    wrong(
+        "1 February to 15 July are holidays", is_holiday=lambda my, was,
+        at: was(at) or (2, 1) <= (at.month, at.day) <= (7, 15)
+    ),
     wrong("summer time begins a month late", RARE, "in four weeks of a year alone",
           offset=lambda my, was, second: min(was(second), was(second - MONTH))),
     wrong("from 2028 on it is an hour late", offset=lambda my, was, second: was(second) - 3600 * (second >= YEAR_2028)),
@@ -170,15 +184,20 @@ CHARGES = [
     wrong("the charge of an interval is rounded to a hundredth", charge=rounded(100)),
     wrong("the charge of an interval is rounded to a thousandth", SMALL, PERMITTED, charge=rounded(1000)),
     wrong("standing is charged twice from the fifth minute on", charge_intervals=long_stand(2400, 2)),
-    wrong("all is charged twice beyond 35 km", charge=lambda my, was, rate, pulses: was(rate, pulses) * (1 + (kilometres(my) > 35))),
+    wrong(
+        "all is charged twice beyond 35 km", charge=lambda my, was, rate,
+        pulses: was(rate, pulses) * (1 + (kilometres(my) > 35))
+    ),
     wrong("half of an `or` is lost in the rates", rate=half_of("or")),
     wrong("half of an `and` is lost in the rates", rate=half_of("and")),
     wrong("the clock is 1 % slow", tick=Fraction(99, 100)),
     wrong("the clock is 0.09 % slow", SMALL, PERMITTED, tick=Fraction(9991, 10_000)),
     wrong("0.3 % more pulses", heard=scaled(Fraction(1003, 1000))),
     wrong("0.19 % more pulses", SMALL, PERMITTED, heard=scaled(Fraction(10_019, 10_000))),
-    wrong("the interval before a key goes by the place behind it", SMALL, PERMITTED, interval=lambda my, was, pulses, count=1: (
-        my.press(*my.latch) or put(my, latch=None) if my.latch and my.latch[0] in "PZ" and my.trip else None) or was(pulses, count)),
+    wrong("the interval before a key goes by the place behind it", SMALL, PERMITTED, interval=lambda my, was, pulses,
+        count=1: (
+        my.press(*my.latch) or put(my, latch=None) if my.latch and my.latch[0] in "PZ" and my.trip else None
+    ) or was(pulses, count)),
 ]
 SUPPLY = [
     wrong("a loss of supply clears the supplements", resume=of_trip(lambda my, trip: trip.added.clear())),
@@ -195,7 +214,9 @@ DISPLAYS = [
 
 
 def fee_by(steps):
-    return wrong(f"the hire fee is {steps:+} steps", begin=of_trip(lambda my, trip: more(my, trip, steps * my.step["amount"])))
+    return wrong(
+        f"the hire fee is {steps:+} steps", begin=of_trip(lambda my, trip: more(my, trip, steps * my.step["amount"]))
+    )
 
 
 def measures_by(distance, time):
@@ -208,12 +229,17 @@ def measures_by(distance, time):
 PAIRS = [
     both(wrong("2 % more pulses", heard=scaled(Fraction(102, 100))), fee_by(-2)),
     both(measures_by(3, 0), wrong("the cover is 5 steps more",
-                                  begin=of_trip(lambda my, trip: put(trip, covers=trip.covers + 5 * my.step["amount"])))),
+                                  begin=of_trip(
+                                      lambda my, trip: put(trip, covers=trip.covers + 5 * my.step["amount"])
+                                  ))),
     measures_by(-2, 3),
     both(wrong("night begins and ends an hour early", minute=lambda my, was, at: (was(at) + 60) % 1440), fee_by(1)),
     both(fee_by(2), wrong("the cover is 2 steps more",
                           begin=of_trip(lambda my, trip: put(trip, covers=trip.covers + 2 * my.step["amount"])))),
-    both(wrong("1 % less pulses", heard=scaled(Fraction(99, 100))), wrong("the clock is 1 % fast", tick=Fraction(101, 100))),
+    both(
+        wrong("1 % less pulses", heard=scaled(Fraction(99, 100))),
+        wrong("the clock is 1 % fast", tick=Fraction(101, 100))
+    ),
 ]
 
 

@@ -1,18 +1,15 @@
-"""Wrong meters that were made up from the rules of docs/METER.md, before there were hirings for them: rounding, clocks,
-generators, keys, the supply, state, calendars, modes, displays, and pairs."""
+"""Wrong meters that were made up from the rules of docs/METER.md, before there were hirings for them: rounding,
+generators, keys, the supply, state, modes, displays, and pairs; those of hours.py beside them."""
 
-import datetime
 from fractions import Fraction
 from math import ceil, floor
 
-from faults import RARE, SMALL, UNSEEN, after, both, every_tick, is_summer, kilometres, speed, wrong
+from faults import RARE, SMALL, UNSEEN, after, both, every_tick, kilometres, speed, wrong
+from faults.hours import CALENDARS, CLOCKS
 from faults.known import (
-    A_STEP, PERMITTED, fee_again, fee_by, long_stand, mean_of, measures_by, more, of_trip, pulses_between, put, remembered, scaled,
+    A_STEP, PERMITTED, fee_again, fee_by, long_stand, mean_of, measures_by, more, of_trip, pulses_between, put, scaled,
     unit,
 )
-
-HOUR, DAY, WEEK = 3600, 86_400, 604_800
-IN_A_YEAR, AT_A_MINUTE = "on a few days of a year alone", "within some minutes of a day alone"
 
 
 def at_each_key(effect):
@@ -77,42 +74,26 @@ def set_in_trip(key, change):
     return {f"set_{key}": lambda my, was, number: change(my, was, number) if my.trip else was(number)}
 
 
-def on_weekday(day, other):
-    return lambda my, was, at: other if was(at) == day else was(at)
-
-
 ROUNDING = [
     wrong("the charge of an interval is rounded up to a hundredth",
           charge=lambda my, was, rate, pulses: Fraction(ceil(100 * was(rate, pulses)), 100)),
-    wrong("the charge is rounded up to a whole step at each key", press=at_each_key(to_steps(ceil)), weight=SMALL, reason=A_STEP),
+    wrong(
+        "the charge is rounded up to a whole step at each key", press=at_each_key(to_steps(ceil)), weight=SMALL,
+        reason=A_STEP
+    ),
     wrong("the charge is rounded up to a whole step each minute", charge_intervals=each_minute),
     wrong("steps above 20.00 count twice", steps=beyond(20, 2)),
     wrong("steps above 40.00 are lost", steps=beyond(40, 0)),
     wrong("`ahead` is `behind`", SMALL, A_STEP, steps=lambda my, was, trip: floor(
         max(0, trip.charged - trip.covers) / Fraction(my.step["amount"]))),
-    wrong("the fare is rounded to whole units of money", fare_of=lambda my, was, trip: -(-was(trip) // unit(my)) * unit(my)),
+    wrong(
+        "the fare is rounded to whole units of money", fare_of=lambda my, was,
+        trip: -(-was(trip) // unit(my)) * unit(my)
+    ),
     wrong("the cover counts per rate and not per trip", interval=lambda my, was, pulses, count=1: (
-        my.trip and my.latch and my.latch[0] in "PZ" and put(my.trip, covers=my.trip.covers + 30), was(pulses, count))[1]),
-]
-CLOCKS = [
-    wrong("the clock stands still while it is stopped", count=lambda my, was, pulses, count: was(pulses, count) or (
-        my.is_stopped and put(my.trip, ticks=my.trip.ticks - count) or None)),
-    wrong("night goes by UTC", minute=lambda my, was, at: (was(at) - my.offset(my.known[0]) // 60) % 1440),
-    wrong("a border of time is 3 minutes late", RARE, AT_A_MINUTE, minute=lambda my, was, at: (was(at) - 3) % 1440),
-    wrong("a border of time is 40 minutes late", minute=lambda my, was, at: (was(at) - 40) % 1440),
-    wrong("a new day begins at 01:00", RARE, "in an hour of some days alone",
-          weekday=lambda my, was, at: was(at) if at.hour else was(at - datetime.timedelta(days=1))),
-    wrong("the weekday is that of the hiring", tariff="port", **remembered("weekday", lambda my: my.weekday(my.local(my.clock)))),
-    wrong("the holiday is that of the hiring", RARE, "over the midnight of a holiday alone", tariff="port",
-          **remembered("is_holiday", lambda my: my.is_holiday(my.local(my.clock)))),
-    wrong("ticks are 0.5 % short", tick=Fraction(1005, 1000)),
-    wrong("each reading of the clock counts a tick more", SMALL, "the clock is read once a minute: 0.17 % of the time",
-          read_clock=of_trip(lambda my, trip: put(trip, ticks=trip.ticks + 1))),
-    wrong("a tick is lost at each reading of the clock, and a minute each hour", count=lambda my, was, pulses, count: was(
-        pulses, count) or (count > 300 and put(my.trip, ticks=my.trip.ticks - count // 60)) and None),
-    wrong("the clock is not read in a trip", read_clock=lambda my, was, second: my.trip or was(second)),
-    wrong("the clock goes back an hour at each power-up", power_up=lambda my, was, second: was(second - HOUR),
-          read_clock=lambda my, was, second: was(second - HOUR)),
+        my.trip and my.latch and my.latch[0] in "PZ" and put(
+            my.trip, covers=my.trip.covers + 30
+        ), was(pulses, count))[1]),
 ]
 GENERATORS = [
     wrong("pulses above 60 km/h are lost", heard=lambda my, was, pulses: min(was(pulses), my.constant * 60 // 36_000)),
@@ -120,14 +101,21 @@ GENERATORS = [
     wrong("3 % less pulses from 10 to 40 km/h", heard=pulses_between(10, 40, Fraction(97, 100))),
     wrong("4 % more pulses from 60 to 80 km/h", heard=pulses_between(60, 80, Fraction(104, 100))),
     wrong("2 % more pulses above 85 km/h", heard=pulses_between(85, 10**9, Fraction(102, 100))),
-    wrong("5 % more pulses from 41 to 43 km/h", RARE, "at these speeds alone", heard=pulses_between(41, 43, Fraction(105, 100))),
+    wrong(
+        "5 % more pulses from 41 to 43 km/h", RARE, "at these speeds alone",
+        heard=pulses_between(41, 43, Fraction(105, 100))
+    ),
     wrong("no distance counts while it is stopped",
           count=lambda my, was, pulses, count: was(0 if my.is_stopped else pulses, count)),
     wrong("pulses for hire count to the next trip", interval=lambda my, was, pulses, count=1: was(pulses, count) or (
         my.trip or put(my, notes={"free": my.notes.get("free", 0) + pulses * count}) or None),
           begin=of_trip(lambda my, trip: put(trip, pulses=my.notes.pop("free", 0)))),
-    wrong("the distance wraps at 65,536 pulses", distance_of=lambda my, was, trip: 1_000_000 * (trip.pulses % 65_536) // my.constant),
-    wrong("a pulse is lost each ten seconds", SMALL, PERMITTED, count=lambda my, was, pulses, count: was(pulses, count) or (
+    wrong(
+        "the distance wraps at 65,536 pulses", distance_of=lambda my, was,
+        trip: 1_000_000 * (trip.pulses % 65_536) // my.constant
+    ),
+    wrong("a pulse is lost each ten seconds", SMALL, PERMITTED, count=lambda my, was, pulses, count: was(pulses,
+        count) or (
         pulses and put(my.trip, pulses=my.trip.pulses - count // 100) or None)),
     wrong("1 % more pulses behind Hire in Stopped", heard=lambda my, was, pulses: was(pulses) * (
         Fraction(101, 100) if my.trip and my.trip.notes.get("again") else 1),
@@ -159,19 +147,34 @@ KEYS = [
 SUPPLY = [
     wrong("a loss of supply forgets the charge of the last minute", resume=of_trip(
         lambda my, trip: put(trip, charged=min(trip.charged, trip.notes.get("saved", 0)))),
-          charge_intervals=lambda my, was, pulses, count: was(pulses, count) or (my.trip.ticks // 600 != my.trip.notes.get("at")
+          charge_intervals=lambda my, was, pulses, count: was(pulses,
+          count) or (my.trip.ticks // 600 != my.trip.notes.get("at")
           and my.trip.notes.update(at=my.trip.ticks // 600, saved=my.trip.charged))),
-    wrong("a trip goes on Hired behind a loss of supply while it was stopped", resume=after(lambda my: put(my, is_stopped=False))),
+    wrong(
+        "a trip goes on Hired behind a loss of supply while it was stopped",
+        resume=after(lambda my: put(my, is_stopped=False))
+    ),
     wrong("a loss of supply sets position 1", resume=after(lambda my: put(my, position=1))),
     wrong("a loss of supply clears the distance", resume=of_trip(lambda my, trip: put(trip, pulses=0))),
     wrong("a loss of supply clears the duration", resume=of_trip(lambda my, trip: put(trip, ticks=0))),
     wrong("the time without supply is charged", power_up=bound_to(lambda my, second: 10 * (second - my.saved))),
-    wrong("the trip ends behind half of the hold time", is_held=lambda my, was, second: my.saved <= second <= my.saved + my.hold // 2),
-    wrong("the trip goes on behind a minute more than the hold time", is_held=lambda my, was, second: was(second - 60) or was(second)),
+    wrong(
+        "the trip ends behind half of the hold time", is_held=lambda my, was,
+        second: my.saved <= second <= my.saved + my.hold // 2
+    ),
+    wrong(
+        "the trip goes on behind a minute more than the hold time", is_held=lambda my, was,
+        second: was(second - 60) or was(second)
+    ),
     wrong("a loss of supply gives the cover again", resume=of_trip(
         lambda my, trip: put(trip, covers=trip.covers + my.fee(my.context(my.clock)).parts["covers"]))),
-    wrong("a loss of supply forgets the minimum fare", tariff="night", resume=of_trip(lambda my, trip: put(trip, least=0))),
-    wrong("a second loss of supply clears the charge", resume=of_trip(lambda my, trip: my.losses > 1 and put(trip, charged=0))),
+    wrong(
+        "a loss of supply forgets the minimum fare", tariff="night", resume=of_trip(lambda my, trip: put(trip, least=0))
+    ),
+    wrong(
+        "a second loss of supply clears the charge",
+        resume=of_trip(lambda my, trip: my.losses > 1 and put(trip, charged=0))
+    ),
 ]
 STATE = [
     wrong("the supplements of the hiring before are kept",
@@ -184,34 +187,16 @@ STATE = [
           begin=of_trip(lambda my, trip: my.before and put(trip, fee=my.before.fee, covers=my.before.covers))),
     wrong("the third hiring since the power-up costs 1.00 more",
           begin=of_trip(lambda my, trip: my.hirings == 3 and more(my, trip, unit(my)))),
-    wrong("each hiring since the power-up is 2 % dearer", charge=lambda my, was, rate, pulses: was(rate, pulses) * Fraction(
+    wrong("each hiring since the power-up is 2 % dearer", charge=lambda my, was, rate, pulses: was(rate,
+        pulses) * Fraction(
         98 + 2 * my.hirings, 100)),
     wrong("the second hiring has no hire fee", begin=of_trip(lambda my, trip: my.hirings == 2 and put(trip, fee=0))),
     wrong("the charge of the hiring before is kept if that was long",
-          begin=of_trip(lambda my, trip: my.before and my.before.ticks > 3000 and put(trip, charged=my.before.charged / 4))),
+          begin=of_trip(
+              lambda my, trip: my.before and my.before.ticks > 3000 and put(trip, charged=my.before.charged / 4)
+          )),
     wrong("the hundredth hiring since the power-up is free", UNSEEN, "no drive has so many hirings behind one power-up",
           begin=of_trip(lambda my, trip: my.hirings == 100 and put(trip, fee=0))),
-]
-CALENDARS = [
-    *(wrong(f"weekday {day} is Sunday", weekday=on_weekday(day, 7)) for day in (1, 3, 4, 5, 6)),
-    wrong("Sunday is Saturday", weekday=on_weekday(7, 6)),
-    wrong("no day is a holiday", is_holiday=lambda my, was, at: False),
-    wrong("the day after a holiday is one", RARE, IN_A_YEAR,
-          is_holiday=lambda my, was, at: was(at) or was(at - datetime.timedelta(days=1))),
-    wrong("Sunday begins on Saturday at 20:00", RARE, "on Saturdays from 20:00 to 22:00 alone",
-          weekday=lambda my, was, at: 7 if was(at) == 6 and at.hour >= 20 else was(at)),
-    wrong("winter time never comes again", offset=lambda my, was, second: max(
-        offset for begins, offset in my.offsets if begins <= max(second, my.offsets[0][0]))),
-    wrong("summer time ends a week early", RARE, IN_A_YEAR, offset=lambda my, was, second: min(was(second), was(second + WEEK))),
-    wrong("the last sealed offset isn't taken", RARE, "behind the last sealed change alone",
-          offset=lambda my, was, second: [offset for begins, offset in my.offsets[:-1] if begins <= second][-1]),
-    wrong("in odd years night begins at 20:00", minute=lambda my, was, at: max(was(at), 1320) if at.year % 2 and at.hour >= 20 else was(at)),
-    wrong("in December night ends at 08:00", RARE, "in two hours of a month alone", minute=lambda my, was, at: (
-        0 if at.month == 12 and at.hour < 8 else was(at))),
-    wrong("the second half of each month is Sunday", weekday=lambda my, was, at: 7 if at.day > 15 else was(at)),
-    wrong("in summer the night is an hour longer", minute=lambda my, was, at: 0 if is_summer(my) and at.hour == 6 else was(at)),
-    wrong("Saturday's night ends at midnight", minute=lambda my, was, at: 720 if at.isoweekday() == 6 and at.hour < 6 else was(at)),
-    wrong("from the next year on each day is a Sunday", weekday=lambda my, was, at: 7 if at.year > 2026 else was(at)),
 ]
 MODES = [
     wrong("the lesser of distance and time is charged", charge=lambda my, was, rate, pulses: min(
@@ -224,26 +209,43 @@ MODES = [
     wrong("standing is free from the tenth minute on", charge_intervals=long_stand(5400, 0)),
     wrong("creeping is charged by distance", charge=lambda my, was, rate, pulses: (
         my.by_distance(rate, pulses) if pulses else my.by_time(rate))),
-    wrong("creeping is free", charge=lambda my, was, rate, pulses: was(rate, pulses) if not pulses or speed(my, pulses) > 8 else 0),
-    wrong("from 50 km on all is free", UNSEEN, "no hiring of the city's kits is so long", charge=lambda my, was, rate, pulses: (
+    wrong(
+        "creeping is free", charge=lambda my, was, rate,
+        pulses: was(rate, pulses) if not pulses or speed(my, pulses) > 8 else 0
+    ),
+    wrong("from 50 km on all is free", UNSEEN, "no hiring of the city's kits is so long", charge=lambda my, was, rate,
+        pulses: (
         0 if kilometres(my) >= 50 else was(rate, pulses))),
 ]
 DISPLAYS = [
     wrong("supplements are shown in the fare", fare_of=lambda my, was, trip: was(trip) + my.extras_of(trip)),
-    wrong("the fare shown wraps at 65.536", fare_of=lambda my, was, trip: was(trip) % 65_536 if was(trip) > 65_536 else was(trip) % 6554),
+    wrong(
+        "the fare shown wraps at 65.536", fare_of=lambda my, was,
+        trip: was(trip) % 65_536 if was(trip) > 65_536 else was(trip) % 6554
+    ),
     wrong("no more than 800 steps are shown", steps=lambda my, was, trip: min(800, was(trip))),
     wrong("the fare is that of the hiring before for the first minute", fare_of=lambda my, was, trip: (
         was(my.before) if my.before and trip.ticks < 600 else was(trip))),
-    wrong("a fare with supplements is 3 steps more", fare_of=lambda my, was, trip: was(trip) + 3 * my.step["amount"] * bool(trip.added)),
-    wrong("the fare is 10 % more in position 2", fare_of=lambda my, was, trip: was(trip) * 11 // 10 if my.position == 2 else was(trip)),
+    wrong(
+        "a fare with supplements is 3 steps more", fare_of=lambda my, was,
+        trip: was(trip) + 3 * my.step["amount"] * bool(trip.added)
+    ),
+    wrong(
+        "the fare is 10 % more in position 2", fare_of=lambda my, was,
+        trip: was(trip) * 11 // 10 if my.position == 2 else was(trip)
+    ),
     wrong("the supplements shown wrap at 10.00", extras_of=lambda my, was, trip: was(trip) % (10 * unit(my))),
-    wrong("while Hired a fifth more is shown, and what is right when it stops", UNSEEN, "the fare is read when it is stopped",
+    wrong("while Hired a fifth more is shown, and what is right when it stops", UNSEEN,
+        "the fare is read when it is stopped",
           fare=lambda my, was: was() if my.is_stopped else was() + "0"),
 ]
 PAIRS = [
-    both(wrong("2 % more pulses", heard=scaled(Fraction(102, 100))), wrong("the clock is 2 % slow", tick=Fraction(98, 100))),
+    both(
+        wrong("2 % more pulses", heard=scaled(Fraction(102, 100))),
+        wrong("the clock is 2 % slow", tick=Fraction(98, 100))
+    ),
     wrong("3 % more pulses by day and 3 % less by night", heard=lambda my, was, pulses: was(pulses) * (
-        Fraction(97, 100) if (minute := my.minute(my.local(my.begun or my.clock))) >= 1320 or minute < 360 else Fraction(103, 100))),
+        Fraction(103, 100) if 360 <= my.minute(my.local(my.begun or my.clock)) < 1320 else Fraction(97, 100))),
     both(measures_by(2, -2), fee_by(2)),
     both(wrong("time is charged while it is stopped", is_charged=lambda my, was: True,
                charge=lambda my, was, rate, pulses: my.by_time(rate) if my.is_stopped else was(rate, pulses)),
