@@ -5,15 +5,17 @@ import csv
 import hashlib
 import pathlib
 import re
+import subprocess
 from decimal import Decimal
 from typing import NamedTuple
 
 from heglorwy.fineness import compare_speeds, finenesses
+from heglorwy.officer.kit_folder import is_near, keys_in, kit_in, needs_of
 from heglorwy.officer.levels import most
 from heglorwy.officer.readings import EXACT, QUANTITIES, Reading, in_order, readings_in
 from heglorwy.officer.sealed import params_for
 from heglorwy.officer.showing import shown_in
-from heglorwy.program import Differs, Refused, Scratch, called, read
+from heglorwy.program import TOP, Differs, Refused, Scratch, read
 from heglorwy.tariff import read_tariff
 from heglorwy.tariff_parts import of_kind
 
@@ -49,10 +51,15 @@ class Hiring(NamedTuple):
     kind: str
     values: list
     remark: str
+    was_driven: bool = True  # as the list of its kit says
 
     @property
     def passes(self):
-        return all(value.state in (EQUAL, WITHIN) for value in self.values)
+        return self.was_driven and all(value.state in (EQUAL, WITHIN) for value in self.values)
+
+    @property
+    def was_read(self):
+        return self.values[0].state not in (NOT_READ, TOO_MANY)
 
 
 class Judged(NamedTuple):
@@ -68,6 +75,8 @@ class Judged(NamedTuple):
     form: str
     readings: object
     version: list
+    kit: object = None  # of kit_folder.py
+    expected: list = []  # of each hiring, by column
 
 
 def drives_of(path):
@@ -155,9 +164,9 @@ def plain_row(values, decimals):
     return ",".join(f"{number:f}" for number in numbers) + "\n"
 
 
-def values_of(expected, reading, step):
-    """Each value of a hiring beside its reading. A column that the bench doesn't have is looked at where it was
-    read."""
+def values_of(expected, reading, step, needed=()):
+    """Each value of a hiring beside its reading. A column that the bench doesn't have is looked at where it was read,
+    and isn't left out of a hiring that needs it."""
     for name in QUANTITIES:
         permitted = most(name, expected[name], step)
         shown = reading.values[name] if reading and reading.is_there else None
@@ -168,6 +177,8 @@ def values_of(expected, reading, step):
         shown = reading.values.get(name) if reading else None
         if shown is not None:
             yield Value(name, expected[name], shown, None, EQUAL if shown == expected[name] else OFF)
+        elif name in needed and reading and reading.is_there:
+            yield Value(name, expected[name], None, None, NOT_READ)
 
 
 def verdict_of(values):
@@ -193,17 +204,22 @@ def too_many(number, reading):
     return Hiring(number, "", "", values, reading.remark)
 
 
-def version_of(folder):
-    """Which program this is: a name and what it is, for each."""
-    version, *lines = called("taxi", folder, "version")[0].decode().splitlines()
+def version_of():
+    """Which program this is: a name and what it is, for each. Its wrapper says it; the program doesn't know the
+    word."""
+    done = subprocess.run([TOP / "bin/taxi", "version"], stdin=subprocess.DEVNULL, capture_output=True, check=False)
+    version, *lines = done.stdout.decode().splitlines() or [""]
     said = dict(line.split(": ", 1) for line in lines if ": " in line)
+    if done.returncode or not version.startswith("taxi ") or "program" not in said:
+        raise Refused(125, f"{TOP / 'bin/taxi'} version doesn't say what judges")
     names = {"commit": "Its commit", "program": "Its digest", "kit": "Proved by"}
-    return [("Program", version), *((text, said[name]) for name, text in names.items() if name in said)]
+    return [("Program", version), *((text, said.get(name, "unknown")) for name, text in names.items())]
 
 
 def judged(asked, content=None):
     """What is to be said of the readings of drives; without readings, what is expected of each hiring."""
     with Scratch("taxi") as taxi:
+        kit = kit_in(taxi, asked, content is not None)
         bench, drives = Bench(taxi, asked), drives_of(asked.drive)
         expected = [bench.expected(drive) for drive in drives]
         count = sum(map(len, expected))
@@ -213,7 +229,7 @@ def judged(asked, content=None):
         hirings = []
         for drive, wanted in zip(drives, expected):
             here = in_place[len(hirings) : len(hirings) + len(wanted)]
-            found = hirings_of(bench, drive, wanted, here, len(hirings))
+            found = hirings_of(bench, drive, wanted, here, len(hirings), kit)
             if content is not None:
                 compare_verdicts(bench, drive, wanted, here, found)
             hirings += found
@@ -221,24 +237,35 @@ def judged(asked, content=None):
         constant = int(re.search(r"^constant (\d+)$", bench.well("sealed"), re.MULTILINE)[1])
         found = finenesses(bench.rates, constant)
         compare_speeds(found, bench.crossovers)
-        return judged_of(bench, hirings, drives, found, readings)
+        return judged_of(bench, hirings, drives, found, readings, kit)._replace(expected=sum(expected, []))
 
 
-def hirings_of(bench, drive, expected, readings, before):
+def hirings_of(bench, drive, expected, readings, before, kit):
     """The hirings of a drive, numbered behind those of the drives before it."""
+    needs, was_driven = needs_of(drive.text, expected), not kit or was_driven_as_made(bench, kit, drive, expected)
     return [
         Hiring(
-            before + at, drive.name, wanted["receipt"], list(values_of(wanted, reading, bench.step)),
-            reading.remark if isinstance(reading, Reading) else "",
+            before + at, drive.name, wanted["receipt"], list(values_of(wanted, reading, bench.step, needed)),
+            reading.remark if isinstance(reading, Reading) else "", was_driven,
         )
-        for at, (wanted, reading) in enumerate(zip(expected, readings), 1)
+        for at, (wanted, reading, needed) in enumerate(zip(expected, readings, needs), 1)
     ]
 
 
-def judged_of(bench, hirings, drives, crossovers, readings):
+def was_driven_as_made(bench, kit, drive, expected):
+    """Whether a drive is that of its kit, or was recorded while it was driven so."""
+    made = kit.texts.get(drive.name)  # None where the kit wasn't made again
+    if made in (None, drive.text):
+        return True
+    return keys_in(drive.text) == keys_in(made) and is_near(
+        bench.expected(Drive(drive.name, made)), expected, bench.step
+    )
+
+
+def judged_of(bench, hirings, drives, crossovers, readings, kit):
     sealed = bench.well("sealed")
     lines = [line.removeprefix("# ").split(" ", 1) for line in sealed.splitlines()]
     return Judged(
         hirings, drives, dict(lines), [line[1] for line in lines if line[0] == "offset"], crossovers, bench.rates,
-        bench.decimals, bench.well("form", "tariff"), readings, version_of(bench.taxi.folder.name),
+        bench.decimals, bench.well("form", "tariff"), readings, version_of(), kit,
     )

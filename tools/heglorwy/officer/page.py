@@ -2,7 +2,8 @@
 
 from html import escape
 
-from heglorwy.officer.paper import DIGITS, Facts, Table
+from heglorwy.officer.paper import DIGITS
+from heglorwy.officer.sheet import Facts, Table
 
 STYLE = """@page { size: A4; margin: 16mm 16mm 18mm
   @bottom-right { content: counter(page) " / " counter(pages); font: 8pt "DejaVu Sans" } }
@@ -55,7 +56,7 @@ def table(part):
     for number, row in enumerate(part.rows):
         if row[0].rows:
             yield ("</tbody>" if number else "") + "<tbody>"
-        is_blank = not any(cell.text for cell in row[LEFT:])
+        is_blank = len(row) > LEFT and not any(cell.text for cell in row[LEFT:])
         cells = "".join(cell_of(cell, at, is_blank) for at, cell in enumerate(row) if cell.rows)
         yield f"<tr>{cells}</tr>"
     yield "</tbody></table>" if part.rows else "</table>"

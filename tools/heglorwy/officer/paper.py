@@ -2,11 +2,12 @@
 
 import datetime
 from decimal import Decimal
-from typing import NamedTuple
 
 from heglorwy.fineness import decimal, nearest_text, percent_text
 from heglorwy.officer.judging import DECIMALS, EQUAL, NOT_READ, OFF, TOO_MANY, WITHIN
 from heglorwy.officer.readings import EXACT, QUANTITIES
+from heglorwy.officer.sheet import Block, Cell, Facts, Paper, Table
+from heglorwy.officer.speaking import spoken_for
 
 UNITS = {"distance": " m", "time": " s"}
 SAYS = {EQUAL: "equal", WITHIN: "permitted", OFF: "NOT PERMITTED", NOT_READ: "NOT READ", TOO_MANY: "ONE TOO MANY"}
@@ -15,40 +16,6 @@ TO_FILL_IN = [
     "Software identification that the meter shows", "Seals put on",
 ]
 DIGITS = 8  # of a digest, between blanks
-
-
-class Cell(NamedTuple):
-    text: str
-    is_bad: bool = False
-    rows: int = 1  # that it stands for; 0 where the cell above stands here too
-
-
-class Facts(NamedTuple):
-    """Names and what they are; a line to be filled in where nothing is said."""
-
-    heading: str
-    pairs: list
-
-
-class Table(NamedTuple):
-    heading: str
-    columns: list
-    rows: list  # of Cells
-
-
-class Block(NamedTuple):
-    """A text as it stands."""
-
-    heading: str
-    lines: list
-
-
-class Paper(NamedTuple):
-    title: str
-    is_good: bool | None  # None where nothing was judged
-    result: str
-    failures: list
-    parts: list
 
 
 def grouped(digest):
@@ -97,7 +64,7 @@ class Writer:
         if value.state == TOO_MANY:
             return f"{where}: a reading too many: {value.name} {self.units(value.name, value.shown)}"
         if value.state == NOT_READ:
-            return f"{where}: {value.name} wasn't read"
+            return f"{where}: {value.name} {were_not(value.name)} read"
         shown, expected = (self.units(value.name, units) for units in (value.shown, value.expected))
         off = self.off(value)
         permitted = f"permitted {self.units(value.name, value.permitted)}"
@@ -106,19 +73,35 @@ class Writer:
 
 
 def failures_of(judged):
-    """Each value that isn't as it should be. A hiring that wasn't read is told once."""
+    """Each value that isn't as it should be. A hiring that wasn't read at all is told once."""
     writer = Writer(judged.decimals)
     for hiring in judged.hirings:
+        if not hiring.was_driven:
+            yield f"hiring {hiring.number} ({hiring.drive}): it wasn't driven as the list says"
         for value in hiring.values:
-            if value.state == OFF or value.state in (NOT_READ, TOO_MANY) and value is hiring.values[0]:
+            if value.state == OFF or value is hiring.values[0] and not hiring.was_read or (
+                value.state == NOT_READ and hiring.was_read
+            ):
                 yield writer.failure(hiring, value)
+
+
+def were_not(name):
+    return "weren't" if name == "supplements" else "wasn't"
+
+
+def not_read(judged):
+    """What wasn't read, and in how many hirings."""
+    for name in EXACT:
+        values = (value for hiring in judged.hirings for value in hiring.values)
+        if count := sum((value.name, value.state) == (name, NOT_READ) for value in values):
+            yield f"{name} {were_not(name)} read in {count} hiring{'s' * (count > 1)}"
 
 
 def result_of(judged):
     count, bad = len(judged.hirings), sum(not hiring.passes for hiring in judged.hirings)
     equal = sum(all(value.state == EQUAL for value in hiring.values) for hiring in judged.hirings)
     if bad:
-        return f"NOT PASSED: {bad} of {count} readings"
+        return "; ".join([f"NOT PASSED: {bad} of {count} readings", *not_read(judged)])
     return f"PASSED: {count} of {count} readings, {equal} of them equal to what was expected"
 
 
@@ -165,6 +148,8 @@ def by_what(judged, has_readings):
     pairs = [(name, grouped_last(value)) for name, value in judged.version]
     driven = sum(bool(hiring.drive) for hiring in judged.hirings)
     pairs.append(("Drives", f"{len(judged.drives)}, with {driven} hirings; their digests stand below"))
+    made = ", made again with the same list" if has_readings else ""
+    pairs.append(("Kit", f"{judged.kit.words}{made}" if judged.kit else "none: drives without a list"))
     if has_readings:
         pairs += [("Readings, SHA-256", grouped(judged.readings.digest)), ("Read", judged.readings.how)]
     return Facts("By what", pairs)
@@ -231,7 +216,7 @@ def form_of(judged, asked):
 def report_of(judged, asked):
     failures = list(failures_of(judged))
     parts = [
-        verified(judged), by_what(judged, True), filled_in(asked), report_table(judged),
+        verified(judged), by_what(judged, True), filled_in(asked), spoken_for(judged), report_table(judged),
         crossovers(judged, asked.percent), *at_the_end(judged),
     ]
     return Paper("Verification report", not failures, result_of(judged), failures, parts)

@@ -1,6 +1,6 @@
 """A paper as text."""
 
-from heglorwy.officer.paper import Facts, Table
+from heglorwy.officer.sheet import Facts, Table
 
 NAMES = 30  # columns of the names of facts
 LINE = "________________________________"
