@@ -106,7 +106,7 @@ def _sealed(taxi):
     return taxi
 
 
-@pytest.fixture(scope="session", name="scratch")
+@pytest.fixture(scope="module", name="scratch")
 def _scratch(programs):
     """The program as the tools call it, in a folder of its own."""
     assert programs
