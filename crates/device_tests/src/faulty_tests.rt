@@ -612,18 +612,20 @@ fn asked_by(ask: &Ask) -> Asked<'static> {
     }
 }
 
-/// Whether a call is Ok, a read gives what it should, and a print prints its nine bytes once.
-fn is_ok<L: Ledger>(
+/// Whether a call fails, or is Ok, as it should; then a read gives what it should, and a print prints its nine bytes once.
+fn comes<L: Ledger>(
     device: &mut FileBoard<FaultySystem>,
     trial: &Trial,
     ask: &Ask,
+    is_ok: bool,
     steps: &mut Steps<L>,
 ) -> bool {
     let before = trial.printed();
     match (call(device, &asked_by(ask), steps), ask) {
-        (Ok(bytes), Ask::Read(want)) => bytes[0] == *want,
-        (Ok(_), Ask::Print) => trial.printed().checked_sub(before) == Some(9),
-        (answer, _) => answer.is_ok(),
+        (Err(_), _) => !is_ok,
+        (Ok(bytes), Ask::Read(want)) => is_ok && bytes[0] == *want,
+        (Ok(_), Ask::Print) => is_ok && trial.printed().checked_sub(before) == Some(9),
+        (Ok(_), _) => is_ok,
     }
 }
 
@@ -651,12 +653,16 @@ fn must_come<L: Ledger>(
     let trial = Trial::new(rt.alloc(), case.faults, kind)?;
     let mut device = device_of(case, FaultySystem { rt, trial });
     for ask in case.before {
-        must(is_ok(&mut device, trial, ask, &mut steps), case.name, 0)?;
+        must(
+            comes(&mut device, trial, ask, true, &mut steps),
+            case.name,
+            0,
+        )?;
     }
     trial.begin();
     for number in 0..case.calls.len() {
         let (ask, want) = &case.calls[number];
-        let came = is_ok(&mut device, trial, ask, &mut steps) == *want;
+        let came = comes(&mut device, trial, ask, *want, &mut steps);
         must(came, case.name, number as u64 + 1)?;
     }
     must(trial.again() == case.again, case.name, 99)
