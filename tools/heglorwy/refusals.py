@@ -11,13 +11,19 @@ COMMON = {"NoMemory", "LineFull", "Failed", "DeviceFailed", "Ended", "Self"}
 SAYS_WHEN = re.compile(r"`\w+|\bNone\b|\b(?:error|status|refus|fail|stop|nothing)", re.IGNORECASE)
 HEAD = """# The calls that may refuse
 
-What each call answers other than its value, as its words say, and the clauses by which it is pinned. Calls that always answer with their value are left out. No call panics. Some answers are the same everywhere:
+What each call answers other than its value, as its words say, and the clauses by which it is pinned. Calls that
+always answer with their value are left out. No call panics. Some answers are the same everywhere:
 
-- **No memory** (`NoMemory`, status 12) is tied to no cause, unless a clause says so; docs/PROMISES.md, "What no contract refuses", has each call whose clause says where.
-- **A failure outside** (`ReadFault`, `BoardFault`, `DeviceFailed`, `Failed`, statuses 7 and 8) comes only if the count of faults of the file or the board rose in that call, by one, or stands at its last value. With each other answer no count rose.
-- **A full line** (`LineFull`) comes exactly if the text doesn't fit into what is left of the line's 512 bytes, and leaves the line. Otherwise the text is appended.
+- **No memory** (`NoMemory`, status 12) is tied to no cause, unless a clause says so; docs/PROMISES.md, "What no
+  contract refuses", has each call whose clause says where.
+- **A failure outside** (`ReadFault`, `BoardFault`, `DeviceFailed`, `Failed`, statuses 7 and 8) comes only if the
+  count of faults of the file or the board rose in that call, by one, or stands at its last value. With each other
+  answer no count rose.
+- **A full line** (`LineFull`) comes exactly if the text doesn't fit into what is left of the line's 512 bytes, and
+  leaves the line. Otherwise the text is appended.
 - **A search that finds nothing** answers `None`, exactly if nothing is there.
-- **A text or a value that isn't accepted** is answered exactly by its first fault, unless memory ran out. What reads pieces answers its fault again in each later call, and changes nothing.
+- **A text or a value that isn't accepted** is answered exactly by its first fault, unless memory ran out. What reads
+  pieces answers its fault again in each later call, and changes nothing.
 - **The end of a command** (`Ended`) is as the record of the command says, which its clause names."""
 
 
