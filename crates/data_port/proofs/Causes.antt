@@ -1,19 +1,12 @@
 -- What a call says of a count of faults if it failed, and if it didn't.
-use Rattle.std.proofs.Common.{ℕ, ◌+◌, ◌<◌, ◌≡◌, ◌≤◌, Err, Ok, OnErr, Result, arith, false, is_err, refl, true}
-use Rattle.{outside.specs.Faults.{HasCause}, data_port.specs.Common.{BoardFault, Frame, PortFault}}
+use Rattle.std.proofs.Common.{ℕ, ◌+◌, ◌<◌, ◌≡◌, ◌≤◌, Err, Ok, Result, arith, false, is_err, refl, true}
+use Rattle.outside.specs.Faults.{HasCause}
 
 -- a call that didn't fail left the count
 pub left_if_not : {A E : Type 0} {before now : ℕ} (r : Result A E) → is_err r ≡ false → HasCause before now r
     → now ≡ before
 left_if_not (Ok value) fine cause = cause.kept refl
 left_if_not (Err fault) fine cause = absurd (let bad : true ≡ false = fine in cc)
-
--- a stream's end is no fault of the board
-pub end_is_not : (P : ℕ → Type 0) (r : Result (Unit {0}) PortFault)
-    → OnErr r ((place : ℕ) × (r ≡ Err (Frame place)) × P place)
-    → r ≡ Err BoardFault → ⊥
-end_is_not P (Ok done) ended fault = absurd cc
-end_is_not P (Err why) ended fault = absurd (let bad : Frame ended.0 ≡ BoardFault = cc in cc)
 
 -- one step more, of some that aren't all yet
 pub steps_within : (old before now index all : ℕ) → index < all → before ≤ old + index → now ≤ before + 1

@@ -1,18 +1,18 @@
 -- A piece, and then a stream, that is served.
-use Rattle.std.{specs.Prelude.{All, IfErr, IfOk, OnErr, OnOk, is_err}, proofs.lemmas.Grind.{flat_map-append}}
-use Rattle.std.proofs.Common.{[], ℕ, ◌++◌, ◌+◌, ◌<◌, ◌^◌, ◌∙◌, ◌≡◌, ◌≤◌, Err, List, None, Ok, Result, Some, ap}
-use Rattle.std.proofs.Common.{append_assoc, arith, drop, false, get_or, length, length-append, length-take, refl, subst}
-use Rattle.std.proofs.{Common.{sym, take}, lemmas.List.{append-nil, nil_from_length, take-append-drop}}
+use Rattle.std.{specs.Prelude.{All, IfErr, IfOk, OnOk, is_err}, proofs.lemmas.Grind.{flat_map-append}}
+use Rattle.std.proofs.Common.{[], ℕ, ◌++◌, ◌+◌, ◌<◌, ◌^◌, ◌∙◌, ◌≡◌, ◌≤◌, Err, List, None, Ok, Option, Result, Some, ap}
+use Rattle.std.proofs.Common.{append_assoc, arith, drop, false, get_or, inl, inr, length, length-append, length-take}
+use Rattle.std.proofs.{Common.{refl, subst, sym, take}, lemmas.List.{append-nil, nil_from_length, take-append-drop}}
 use Rattle.taxi_units.{specs.Streams.{IsSplit, KeepsBad}, proofs.Laws.{whole_stream_reached}}
 use Rattle.taxi_units.proofs.Laws.{bad_stream_reached, endless_stream_reached, unfinished_stream_reached}
-use Rattle.{outside.proofs.Laws.{begins_after, begins_more}, data_port.specs.Reading.{requests_in, standing_after}}
+use Rattle.{outside.proofs.Laws.{begins_after, begins_more}, data_port.specs.declared.port.BadFrame.{BadFrame}}
 use Rattle.data_port.specs.Common.{Begins, BoardFault, Durable, Frame, PortFault, ReadFault, Seal, TooLong}
 use Rattle.data_port.specs.Reading.{BreaksIn, HasSense, HasTaken, Standing, TakesTo, bad_at_end, between, first_bad}
-use Rattle.data_port.specs.{ReadingStages.{after_bytes, bad_of, ended_in}, declared.port.BadFrame.{BadFrame}}
-use Rattle.data_port.{specs.Reply.{reply_to}, proofs.Parts.{flat_more}}
-use Rattle.data_port.{specs.{Requests.{IsRequest}, ServingStages.{ServesPiece}}, proofs.Laws.{going_count, going_port}}
-use Rattle.data_port.specs.ServedStream.{BadAt, Endless, IsBoundedByRequests, ReachesEnd, Serves, ServesTo, StopsAfter}
-use Rattle.data_port.specs.{ServedStream.{StreamEnd, Whole, replies, stream_limit}, declared.request.Request.{Request}}
+use Rattle.data_port.specs.{Reading.{requests_after, requests_in, standing_after}, declared.request.Request.{Request}}
+use Rattle.data_port.specs.{ReadingStages.{after_bytes, bad_of, ended_in}, ServingStages.{EndsHere, StopsNext, failed}}
+use Rattle.data_port.{specs.Reply.{reply_to}, proofs.{Laws.{going_count, going_port}, Parts.{flat_more}}}
+use Rattle.data_port.specs.{Requests.{IsRequest}, ServedStream.{StopsAfter, StreamEnd, Whole, replies, stream_limit}}
+use Rattle.data_port.specs.ServedStream.{BadAt, Endless, IsBoundedByRequests, ReachesEnd, Serves, ServesMore, ServesTo}
 use Rattle.data_port.proofs.{Runs.{after-append, ended-append}, Streams.{bad_end, bad_ends_requests, bad_stays}}
 use Rattle.data_port.specs.ServedStream as serving
 
@@ -130,10 +130,6 @@ bad_is_no_fault place P same = absurd (let bad : Frame place ≡ BoardFault = cc
 -- and neither is the end of a piece
 pub end_is_no_fault : (P : Type 0) → ◌≡◌ {A = Result (Unit {0}) PortFault} (Ok tt) (Err BoardFault) → P
 end_is_no_fault P same = absurd cc
-
--- a read that failed isn't a failure of the board
-pub read_is_no_fault : (P : Type 0) → ◌≡◌ {A = Result (Unit {0}) PortFault} (Err ReadFault) (Err BoardFault) → P
-read_is_no_fault P same = absurd (let bad : ReadFault ≡ BoardFault = cc in cc)
 
 module _ {told : Type 0} {durable : Durable} {seal : Seal} {first now : Standing} {piece rest before printed : List ℕ}
     {opening steps : ℕ} (f : PieceSoFar told durable seal first now piece rest before printed opening steps) where
@@ -307,30 +303,32 @@ module _ {known told : Type 0} {durable : Durable} {seal : Seal} {port : Standin
       f.split k ∙ (ap (λ (l : List ℕ). f.taken ++ l) (passes k) ∙ sym (append_assoc f.taken piece rest'))
 
   -- a piece more was served
-  pub served_more : (port' : Standing) (piece rest' printed' : List ℕ) (left' steps' : ℕ)
-      → (known → rest ≡ piece ++ rest') → port' ≡ after_bytes port piece → port'.failed ≡ false
-      → left' + length piece ≡ left → (told → printed' ≡ printed ++ replies durable seal (ended_in port piece))
-      → steps' ≤ steps + length (ended_in port piece)
+  pub served_next : (port' : Standing) (rest' printed' : List ℕ) (count left' steps' : ℕ) → left' + count ≡ left
+      → ServesMore known told durable seal port port' rest rest' printed printed' steps steps' count
       → ServedSoFar known told durable seal port' stream rest' before printed' left' opening steps'
-  served_more port' piece rest' printed' left' steps' passes is going fewer shown more = record {
-    taken = f.taken ++ piece;
-    stands = is ∙ more_standing piece;
-    going = going;
-    count = going_count port' (f.taken ++ piece) (is ∙ more_standing piece) going;
-    room = omega (arith, f.room, fewer, length-append f.taken piece);
-    split = longer piece rest' passes;
-    shown = λ t. printed_more durable seal before printed printed' (requests_in f.taken) (ended_in port piece)
-        (requests_in (f.taken ++ piece)) (f.shown t) (shown t) (more_requests piece);
-    bounded = omega (
-      arith,
-      f.bounded,
-      more,
-      ap length (more_requests piece),
-      length-append (requests_in f.taken) (ended_in port piece),
-    );
-  }
+  served_next port' rest' printed' count left' steps' fewer h =
+      let stands = h.taken f.taken f.stands in
+      let behind = ended-append (between 0) f.taken h.piece in
+      record {
+        taken = f.taken ++ h.piece;
+        stands = stands;
+        going = h.going;
+        count = going_count port' (f.taken ++ h.piece) stands h.going;
+        room = omega (arith, f.room, fewer, h.long, length-append f.taken h.piece);
+        split = longer h.piece rest' h.split;
+        shown = λ t. printed_more durable seal before printed printed' (requests_in f.taken)
+            (requests_after f.taken h.piece) (requests_in (f.taken ++ h.piece)) (f.shown t)
+            (h.printed t f.taken f.stands) behind;
+        bounded = omega (
+          arith,
+          f.bounded,
+          h.bounded f.taken f.stands,
+          ap length behind,
+          length-append (requests_in f.taken) (requests_after f.taken h.piece),
+        );
+      }
 
-  pub more_steps : (piece rest' : List ℕ) (steps' : ℕ) → (known → rest ≡ piece ++ rest')
+  more_steps : (piece rest' : List ℕ) (steps' : ℕ) → (known → rest ≡ piece ++ rest')
       → steps' ≤ steps + length (ended_in port piece) → known → IsBoundedByRequests stream rest' opening steps'
   more_steps piece rest' steps' passes more k = record {
     taken = f.taken ++ piece;
@@ -363,14 +361,14 @@ module _ {known told : Type 0} {durable : Durable} {seal : Seal} {port : Standin
   at_end : (rest' : List ℕ) → rest ≡ [] → rest' ≡ [] → known → stream ≡ f.taken ++ rest'
   at_end rest' none none' k = f.split k ∙ ap (λ (l : List ℕ). f.taken ++ l) (none ∙ sym none')
 
-  pub served_whole : (rest' : List ℕ) → 0 < left → (known → rest ≡ []) → (known → rest' ≡ []) → ((b : List ℕ)
+  served_whole : (rest' : List ℕ) → 0 < left → (known → rest ≡ []) → (known → rest' ≡ []) → ((b : List ℕ)
       → HasTaken port b → bad_at_end b ≡ None) → known → ServesTo told durable seal stream rest' before printed Whole
   served_whole rest' some none none' whole k =
       serves f.taken rest' printed Whole (whole_stream_reached serving.requests requests_in
       (parts f.taken rest' (at_end rest' (none k) (none' k) k)) (none' k)
       (omega (arith, f.room, some)) (whole f.taken f.stands)) f.shown
 
-  pub served_unfinished : (rest' : List ℕ) (place : ℕ) → 0 < left → (known → rest ≡ []) → (known → rest' ≡ [])
+  served_unfinished : (rest' : List ℕ) (place : ℕ) → 0 < left → (known → rest ≡ []) → (known → rest' ≡ [])
       → ((b : List ℕ) → HasTaken port b → bad_at_end b ≡ Some place) → known
       → ServesTo told durable seal stream rest' before printed (BadAt place)
   served_unfinished rest' place some none none' bad k =
@@ -378,21 +376,7 @@ module _ {known told : Type 0} {durable : Durable} {seal : Seal} {port : Standin
       (parts f.taken rest' (at_end rest' (none k) (none' k) k)) (none' k)
       (omega (arith, f.room, some)) (bad f.taken f.stands)) f.shown
 
-  same_err : (e other : PortFault) → err_of e ≡ err_of other → e ≡ other
-  same_err e other is = cc
-
-  -- the stream ends here
-  pub served_end : (result : Result (Unit {0}) PortFault) (rest' : List ℕ) → 0 < left → (known → rest ≡ [])
-      → (known → rest' ≡ []) → OnOk result ((b : List ℕ) → HasTaken port b → bad_at_end b ≡ None)
-      → OnErr result
-      ((place : ℕ) × (result ≡ Err (Frame place)) × ((b : List ℕ) → HasTaken port b → bad_at_end b ≡ Some place))
-      → known → Serves told durable seal stream rest' before printed result
-  served_end (Ok done) rest' some none none' whole bad k = served_whole rest' some none none' whole k
-  served_end (Err e) rest' some none none' whole bad k =
-      subst (λ (x : PortFault). Serves told durable seal stream rest' before printed (err_of x))
-      (sym (same_err e (Frame bad.0) bad.1)) (served_unfinished rest' bad.0 some none none' bad.2 k)
-
-  pub served_bad : (piece rest' printed' : List ℕ) (place : ℕ) → length piece ≤ left → (known → rest ≡ piece ++ rest')
+  served_bad : (piece rest' printed' : List ℕ) (place : ℕ) → length piece ≤ left → (known → rest ≡ piece ++ rest')
       → bad_of (after_bytes port piece) ≡ Some place
       → (told → printed' ≡ printed ++ replies durable seal (ended_in port piece)) → known
       → ServesTo told durable seal stream rest' before printed' (BadAt place)
@@ -405,7 +389,7 @@ module _ {known told : Type 0} {durable : Durable} {seal : Seal} {port : Standin
       (λ t. printed_more durable seal before printed printed' (requests_in f.taken) (ended_in port piece)
       (requests_in (f.taken ++ piece)) (f.shown t) (shown t) (more_requests piece))
 
-  pub served_broken : (piece rest' printed' : List ℕ) → (known → rest ≡ piece ++ rest')
+  served_broken : (piece rest' printed' : List ℕ) → (known → rest ≡ piece ++ rest')
       → (told → Begins printed printed' (replies durable seal (ended_in port piece))) → known
       → StopsAfter stream rest' (λ taken. Unit {0})
       (λ taken. told → Begins before printed' (replies durable seal (requests_in taken)))
@@ -417,14 +401,76 @@ module _ {known told : Type 0} {durable : Durable} {seal : Seal} {port : Standin
         (requests_in (f.taken ++ piece)) (f.shown t) (begun t) (more_requests piece);
   }
 
-  -- a piece wasn't served whole
-  pub served_err : (fault : PortFault) (port' : Standing) (piece rest' printed' : List ℕ) → length piece ≤ left
-      → (known → rest ≡ piece ++ rest')
-      → ServesPiece told durable seal port port' piece printed printed' (err_of fault) → known
-      → Serves told durable seal stream rest' before printed' (err_of fault)
-  served_err ReadFault port' piece rest' printed' few passes serves k = absurd serves
-  served_err BoardFault port' piece rest' printed' few passes serves k =
-      served_broken piece rest' printed' passes serves k
-  served_err (Frame place) port' piece rest' printed' few passes serves k =
-      served_bad piece rest' printed' place few passes serves.0 serves.1 k
-  served_err TooLong port' piece rest' printed' few passes serves k = absurd serves
+  -- the end was found, a read failed, or a piece wasn't served whole
+  pub stopped_whole : (port' : Standing) (rest' printed' : List ℕ) (most steps' : ℕ) → 0 < left
+      → EndsHere known told durable seal most port port' rest rest' printed printed' steps steps' None → known
+      → ServesTo told durable seal stream rest' before printed' Whole
+  stopped_whole port' rest' printed' most steps' some h k =
+      subst (λ (x : List ℕ). ServesTo told durable seal stream rest' before x Whole) (sym h.silent)
+      (served_whole rest' some h.over h.over' h.ends k)
+
+  pub stopped : (fault : PortFault) (port' : Standing) (rest' printed' : List ℕ) (most steps' : ℕ) → 0 < left
+      → most ≤ left
+      → StopsNext known told durable seal most port port' rest rest' printed printed' steps steps' (Err fault) → known
+      → Serves told durable seal stream rest' before printed' (failed fault)
+  stopped ReadFault port' rest' printed' most steps' some few h k = record {
+    taken = f.taken;
+    split = record { bytes = f.split k ∙ ap (λ (l : List ℕ). f.taken ++ l) (sym (h.unread k)) };
+    stands = record { good = good; few = omega (arith, f.room, some) };
+    printed = λ t. h.silent ∙ f.shown t;
+  }
+  stopped BoardFault port' rest' printed' most steps' some few h k =
+      served_broken h.piece rest' printed' h.split h.serves k
+  stopped (Frame place) port' rest' printed' most steps' some few (inl h) k =
+      subst (λ (x : List ℕ). ServesTo told durable seal stream rest' before x (BadAt place)) (sym h.silent)
+      (served_unfinished rest' place some h.over h.over' h.ends k)
+  stopped (Frame place) port' rest' printed' most steps' some few (inr h) k =
+      served_bad h.piece rest' printed' place (omega (arith, h.few, few)) h.split h.serves.0 h.serves.1 k
+  stopped TooLong port' rest' printed' most steps' some few h k = absurd h
+
+  -- and the steps
+  same_steps : (rest' : List ℕ) (steps' : ℕ) → stream ≡ f.taken ++ rest' → steps' ≡ steps
+      → IsBoundedByRequests stream rest' opening steps'
+  same_steps rest' steps' split still =
+      record { taken = f.taken; split = record { bytes = split }; bound = omega (arith, f.bounded, still) }
+
+  pub whole_steps : (port' : Standing) (rest' printed' : List ℕ) (most steps' : ℕ) (end : Option ℕ)
+      → EndsHere known told durable seal most port port' rest rest' printed printed' steps steps' end → known
+      → IsBoundedByRequests stream rest' opening steps'
+  whole_steps port' rest' printed' most steps' end h k =
+      same_steps rest' steps' (at_end rest' (h.over k) (h.over' k) k) h.still
+
+  pub stopped_steps : (fault : PortFault) (port' : Standing) (rest' printed' : List ℕ) (most steps' : ℕ)
+      → StopsNext known told durable seal most port port' rest rest' printed printed' steps steps' (Err fault) → known
+      → IsBoundedByRequests stream rest' opening steps'
+  stopped_steps ReadFault port' rest' printed' most steps' h k =
+      same_steps rest' steps' (f.split k ∙ ap (λ (l : List ℕ). f.taken ++ l) (sym (h.unread k))) h.still
+  stopped_steps BoardFault port' rest' printed' most steps' h k =
+      more_steps h.piece rest' steps' h.split h.bounded k
+  stopped_steps (Frame place) port' rest' printed' most steps' (inl h) k =
+      whole_steps port' rest' printed' most steps' (Some place) h k
+  stopped_steps (Frame place) port' rest' printed' most steps' (inr h) k =
+      more_steps h.piece rest' steps' h.split h.bounded k
+  stopped_steps TooLong port' rest' printed' most steps' h k = absurd h
+
+-- ---- one piece of a stream
+
+-- a piece that was served whole
+pub more_of : {known told : Type 0} {durable : Durable} {seal : Seal} {old new : Standing}
+    {rest rest' before now : List ℕ} {steps steps' count : ℕ} (piece : List ℕ) → length piece ≡ count → 0 < count
+    → (known → rest ≡ piece ++ rest') → new ≡ after_bytes old piece → new.failed ≡ false
+    → (told → now ≡ before ++ replies durable seal (ended_in old piece)) → steps' ≤ steps + length (ended_in old piece)
+    → ServesMore known told durable seal old new rest rest' before now steps steps' count
+more_of {known} {told} {durable} {seal} {old} {new} {rest} {rest'} {before} {now} {steps} {steps'} piece long some split
+    is going printed bounded = record {
+      piece = piece;
+      long = long;
+      some = some;
+      split = split;
+      going = going;
+      taken = λ bytes at. is ∙ (ap (λ (s : Standing). after_bytes s piece) at
+          ∙ sym (after-append (between 0) bytes piece));
+      printed = λ t bytes at. subst (λ (s : Standing). now ≡ before ++ replies durable seal (ended_in s piece)) at
+          (printed t);
+      bounded = λ bytes at. subst (λ (s : Standing). steps' ≤ steps + length (ended_in s piece)) at bounded;
+    }

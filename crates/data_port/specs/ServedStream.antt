@@ -1,8 +1,9 @@
 -- Rules: a stream of requests that is served, how it ends, and what is printed of it.
-use Rattle.std.specs.{List.{flat_map}, Prelude.{ℕ, ◌++◌, ◌+◌, ◌≡◌, ◌≤◌, Err, List, Ok, Result, length}}
-use Rattle.{taxi_units.specs.Streams.{StreamKind, end_of, given_of}, data_port.specs.Reply.{reply_to}}
+use Rattle.std.specs.{List.{flat_map}, Prelude.{ℕ, ◌++◌, ◌+◌, ◌<◌, ◌≡◌, ◌≤◌, Err, List, Ok, Result, false, length}}
+use Rattle.{taxi_units.specs.Streams.{StreamKind, end_of, given_of}, data_port.specs.declared.request.Request.{Request}}
 use Rattle.data_port.specs.Common.{Begins, BoardFault, Durable, Frame, PortFault, ReadFault, Seal, TooLong}
-use Rattle.data_port.specs.{Reading.{bad_at_end, first_bad, requests_in}, declared.request.Request.{Request}}
+use Rattle.data_port.specs.Reading.{HasTaken, Standing, bad_at_end, first_bad, requests_after, requests_in}
+use Rattle.data_port.specs.Reply.{reply_to}
 use Rattle.taxi_units.specs.Streams as streams
 pub use Rattle.taxi_units.specs.Streams.{BadAt, Endless, IsSplit, StopsAfter, StreamEnd, Whole, stream_limit}
 
@@ -31,6 +32,21 @@ ShowsEnd reached taken left = streams.ShowsEnd requests reached taken left
 -- the replies to requests are the reply to each, one behind the other
 abbrev pub replies : Durable → Seal → List Request → List ℕ
 replies durable seal requests = flat_map (reply_to durable seal) requests
+
+-- one piece more of a stream was served if it has `count` bytes, at least one, which are the front of what was left, if
+-- that is told; the port has taken it behind the bytes before it, none of which is bad; and the replies to the requests
+-- that end in it were printed, if the text is told, in at most one step each. No further byte was taken.
+pub record ServesMore (known told : Type 0) (durable : Durable) (seal : Seal) (old new : Standing)
+    (rest rest' before now : List ℕ) (steps steps' count : ℕ) : Type 0 where
+  pub piece : List ℕ
+  pub long : length piece ≡ count
+  pub some : 0 < count
+  pub split : known → rest ≡ piece ++ rest'
+  pub going : new.failed ≡ false
+  pub taken : (bytes : List ℕ) → HasTaken old bytes → HasTaken new (bytes ++ piece)
+  pub printed : told → (bytes : List ℕ) → HasTaken old bytes
+      → now ≡ before ++ replies durable seal (requests_after bytes piece)
+  pub bounded : (bytes : List ℕ) → HasTaken old bytes → steps' ≤ steps + length (requests_after bytes piece)
 
 -- steps are bounded by a stream if at most one was counted for each request in the bytes that were taken
 pub record IsBoundedByRequests (stream left : List ℕ) (before now : ℕ) : Type 0 where

@@ -1,10 +1,11 @@
 //! Serves a stream of requests: reads it from a file, and prints the replies.
-ghost use Rattle.std.specs.Prelude.{[], ℕ, ◌++◌, ◌+◌, ◌<◌, ◌^◌, ◌≡◌, ◌≤◌, All, IfOk, IsErr, List, None, OnErr, OnOk};
-ghost use Rattle.std.specs.Prelude.{Some, drop, false, length, take};
+ghost use Rattle.std.specs.Prelude.{[], ℕ, ◌++◌, ◌+◌, ◌<◌, ◌^◌, ◌≡◌, ◌≤◌, All, IfOk, IfSome, IsErr, List, None, OnErr};
+ghost use Rattle.std.specs.Prelude.{OnOk, Some, drop, false, length, take};
 ghost use Rattle.outside.specs.{Faults.{HasCause, MayRise, RisesOnlyIf, Rose}, Reading.{LeavesOthers}};
-ghost use Rattle.data_port.specs.{Common.{Begins, IsDurable, IsSeal, KeepsStore}, ReadingStages.{ended_in}};
-ghost use Rattle.data_port.specs.{Reading.{HasSense, HasTaken, bad_at_end}, Reply.{reply_to}, Requests.{IsRequest}};
-ghost use Rattle.data_port.specs.{ServedStream.{IsBoundedByRequests, Serves, replies}, ServingStages.{ServesPiece}};
+ghost use Rattle.data_port.specs.{Common.{Begins, IsDurable, IsSeal, KeepsStore}, Requests.{IsRequest}};
+ghost use Rattle.data_port.specs.Reading.{HasSense, HasTaken, bad_at_end};
+ghost use Rattle.data_port.specs.{ReadingStages.{ended_in}, ServingStages.{IsGoingPort, ServesPiece, StopsNext}};
+ghost use Rattle.data_port.specs.{Reply.{reply_to}, ServedStream.{IsBoundedByRequests, Serves, ServesMore, replies}};
 
 use crate::port::Port;
 use crate::reply::put_reply;
@@ -61,22 +62,59 @@ pub fn serve<F: Files, B: Printer<STORE_SIZE, L>, L: Ledger>(
     ensures store { KeepsStore B.Printer board.old board.new }
 {
     let mut port = Port::new();
-    let mut piece = [0; 512];
     let mut left = STREAM_LIMIT;
     while left > 0 {
         let most = left.min(512) as usize;
-        let count = match read_piece(files, word, most, &mut piece) {
-            Ok(count) => count,
-            Err(_) => return Err(PortFault::ReadFault),
-        };
-        if count == 0 {
-            return end(&port);
+        let next = serve_next(&mut port, files, word, most, durable, seal, board, steps)?;
+        match next {
+            None => return Ok(()),
+            Some(count) => left -= count as u64,
         }
-        let bytes = front(&piece, count);
-        serve_piece(&mut port, bytes, durable, seal, board, steps)?;
-        left -= count as u64;
     }
     Err(PortFault::TooLong)
+}
+
+/// Reads at most one piece of a stream, of at most `most` bytes, and prints the replies to the requests that end in it,
+/// so that no reply waits for bytes behind its request. It gives how many bytes were taken, at least one; or `None` if
+/// the stream is at its end, and no request is unfinished.
+fn serve_next<F: Files, B: Printer<STORE_SIZE, L>, L: Ledger>(
+    port: &mut Port,
+    files: &mut F,
+    word: usize,
+    most: usize,
+    durable: &Durable,
+    seal: &Seal,
+    board: &mut B,
+    steps: &mut Steps<L>,
+) -> Result<Option<usize>, PortFault>
+    requires port { IsGoingPort port.old }
+    requires few { port.old.taken + most < 2 ^ 64 }
+    requires most { (0 < most) × (most ≤ 512) }
+    requires found { IsDurable durable.now × IsSeal seal.now }
+    ensures more { IfOk result (λ next. IfSome next (λ count. (count ≤ most)
+        × ServesMore F.tells B.tells_text durable.now seal.now port.old port.new (F.rest files.old word)
+        (F.rest files.new word) (B.printed board.old) (B.printed board.new) steps.old steps.new count)) }
+    ensures stops { StopsNext F.tells B.tells_text durable.now seal.now most port.old port.new (F.rest files.old word)
+        (F.rest files.new word) (B.printed board.old) (B.printed board.new) steps.old steps.new result }
+    ensures others { LeavesOthers F.rest word files.old files.new }
+    ensures read_fault { result ≡ Err PortFault.ReadFault → Rose (F.faults files.old word) (F.faults files.new word) }
+    ensures board_fault { RisesOnlyIf (result ≡ Err PortFault.BoardFault) (B.faults board.old) (B.faults board.new) }
+    ensures counts { (other : ℕ)
+        → MayRise (result ≡ Err PortFault.ReadFault) (F.faults files.old other) (F.faults files.new other) }
+    ensures store { KeepsStore B.Printer board.old board.new }
+{
+    let mut piece = [0; 512];
+    let count = match read_piece(files, word, most, &mut piece) {
+        Ok(count) => count,
+        Err(_) => return Err(PortFault::ReadFault),
+    };
+    if count == 0 {
+        end(port)?;
+        return Ok(None);
+    }
+    let bytes = front(&piece, count);
+    serve_piece(port, bytes, durable, seal, board, steps)?;
+    Ok(Some(count))
 }
 
 /// Reads at most a number of bytes into the front of a piece.

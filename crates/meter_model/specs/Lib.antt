@@ -13,4 +13,5 @@ pub mod Step
 pub mod Supplements
 pub mod Supply
 pub mod Trip
+pub mod TripParts
 pub mod Common

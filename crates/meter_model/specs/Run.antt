@@ -1,8 +1,8 @@
 -- Rules: a run, how it opens, its events one after the other, and the supply drop at its end.
 use Rattle.std.specs.Prelude.{[], ◌∷◌, List, None, option_map}
-use Rattle.{taxi_units.specs.Time.{first_second}, meter_model.specs.Common.{Act, Durable, Event, Off, Operating}}
-use Rattle.meter_model.specs.{Meter.{◌>>=◌, Meter, Outcome, quiet}, Setting.{Setting}, Supply.{supply_dropped}}
-use Rattle.meter_model.specs.{Step.{step}, Trip.{trip_of}}
+use Rattle.{taxi_units.specs.Time.{first_second}, totals_record.specs.States.{first_state}}
+use Rattle.meter_model.specs.{Common.{Act, Durable, Event, Off, Operating}, Meter.{◌>>=◌, Meter, Outcome, quiet}}
+use Rattle.meter_model.specs.{Setting.{Setting}, Step.{step}, Supply.{supply_dropped}, Trip.{trip_of}}
 
 -- a meter is opened before the supply first comes, with what the store has: off, at the first second, with the held
 -- trip
@@ -25,6 +25,10 @@ opened s durable = record {
 abbrev pub run : Setting → List Event → Meter → Outcome
 run s [] m = quiet m
 run s (event ∷ events) m = step s event m >>= run s events
+
+-- the meter after events is the one that they lead to from a new store
+abbrev pub meter_after : Setting → List Event → Meter
+meter_after s events = (run s events (opened s first_state)).next
 
 -- two lists of events come to what the first comes to, and then the second
 abbrev pub run_both : Setting → (first second : List Event) → Meter → Outcome

@@ -1,19 +1,16 @@
 -- The weights of the tables give the charges that the rate's own numbers give.
-use Rattle.std.{specs.List.{flat_map}, proofs.lemmas.Bool.{le-ltb, lt-ltb, ltb-false, ltb-true}}
-use Rattle.std.{specs.Option.{unwrap_or}, proofs.Common.{false, get_or, length, ltb, refl, subst, suc, sym, true, zero}}
-use Rattle.std.proofs.Common.{[], ℕ, ◌*◌, ◌+◌, ◌-◌, ◌/◌, ◌<◌, ◌∙◌, ◌∷◌, ◌≡◌, ◌≤◌, Bool, List, Option, ap, arith, cond}
+use Rattle.std.proofs.Common.{[], ℕ, ◌*◌, ◌+◌, ◌-◌, ◌/◌, ◌<◌, ◌∙◌, ◌∷◌, ◌≡◌, ◌≤◌, Bool, ap, arith, cond, false, ltb}
+use Rattle.std.proofs.{Common.{refl, subst, suc, sym, true, zero}, lemmas.Bool.{le-ltb, lt-ltb, ltb-false, ltb-true}}
 use Rattle.std.proofs.Math.Nat.{le_of_mul-le-mul_right, lt_of_mul-lt-mul_right, mul-le-mul_right}
 use Rattle.std.proofs.Math.Nat.{mul-lt-mul_of_pos_right, mul-pos, mul_assoc, mul_comm, mul_left_comm}
-use Rattle.std.proofs.lemmas.{Grind.{common_steps}, List.{get_or-map, Elements.{All-get_or, All-head, All-tail}}}
+use Rattle.std.proofs.lemmas.{Grind.{common_steps}, List.Elements.{All-head, All-tail}}
 use Rattle.{drive_modes.specs.declared.charges.Mode.TheVariants.{Double, Single}, tariff_check.specs.Faults.{IsSound}}
-use Rattle.{tariff_tree.specs.Writable.{IsWritable}, tariff_check.proofs.Laws.{sound_tariffs_have_sound_parts-parts}}
-use Rattle.tariff_check.specs.{Measure.{IsMultipleOfAll, measure_of}, declared.choice.ChoiceKind.TheVariants.{Rate}}
-use Rattle.tariff_check.specs.{Parts.{RateNumbers, rates_of}, SoundLookups.{rate_in_force}, SoundTariff.{sound_of}}
-use Rattle.{tariff_check.specs.Sound.{IsSoundRate}, tariff_compile.specs.Tables.{all_weights, weights_of}}
-use Rattle.tariff_check.proofs.Laws.{lines_that_hold_are_there-rate, measures_are_least-least, measures_are_least-sound}
-use Rattle.{meter_model.specs.Charge.{charge_by}, meter_states.specs.Common.{charge_of, rate_by, weights_in_force}}
+use Rattle.tariff_check.specs.{Measure.{IsMultipleOfAll, measure_of}, Parts.{RateNumbers}, SoundLookups.{rate_in_force}}
+use Rattle.{tariff_check.specs.SoundTariff.{sound_of}, meter_model.specs.Charge.{charge_by}}
+use Rattle.tariff_check.proofs.Laws.{measures_are_least-in_force, measures_are_least-least, measures_are_least-sound}
+use Rattle.tariff_compile.{specs.Tables.{weights_of}, proofs.Laws.{weights_are_those_of_their_rates-rate}}
 use Rattle.meter_states.specs.Common.{Context, Mode, Setting, SoundTariff, TableParts, Tree, Weights, charge_at}
-use Rattle.meter_states.specs.Setting.{IsTariffOf}
+use Rattle.meter_states.specs.{Common.{charge_of, rate_by, weights_in_force}, Setting.{IsTariffOf}}
 
 -- numbers that are scaled alike compare alike
 same-below : (d t a c v w : ℕ) → 0 < v → 0 < w → d * v ≡ a * w → t * v ≡ c * w → (b : Bool) → ltb d t ≡ b → ltb a c ≡ b
@@ -50,48 +47,36 @@ by_speed Single k common p r b e positive divide =
     ap (λ (below : Bool). cond below (r.c * k * (common / r.e)) (p * (10000 * r.a * (common / r.b)))) (sym same)
 by_speed Double k common p r b e positive divide = refl
 
-each_divides : (m : ℕ) (rs : List RateNumbers) → IsMultipleOfAll (flat_map (λ (r : RateNumbers). r.b ∷ r.e ∷ []) rs) m
-    → (place : ℕ) (d : RateNumbers) → place < length rs → DivideIt m (get_or rs place d)
-each_divides m [] all place d h = absurd (omega arith)
-each_divides m (r ∷ rs) all zero d h =
-    let rest = flat_map (λ (r' : RateNumbers). r'.b ∷ r'.e ∷ []) rs in
-    record {
-      first = All-head (λ n. m / n * n ≡ m) r.b (r.e ∷ rest) all;
-      second = All-head (λ n. m / n * n ≡ m) r.e rest (All-tail (λ n. m / n * n ≡ m) r.b (r.e ∷ rest) all);
-    }
-each_divides m (r ∷ rs) all (suc place) d h =
-    let rest = flat_map (λ (r' : RateNumbers). r'.b ∷ r'.e ∷ []) rs in
-    each_divides m rs (All-tail (λ n. m / n * n ≡ m) r.e rest (All-tail (λ n. m / n * n ≡ m) r.b (r.e ∷ rest) all))
-    place d (omega (arith, h))
+-- no number but 0 is a multiple of 0
+divisor_some : (m n : ℕ) → 0 < m → m / n * n ≡ m → 0 < n
+divisor_some m zero some is = absurd (omega (arith, some, is))
+divisor_some m (suc n) some is = omega arith
+
+-- so what both measures divide has them, and neither is 0
+pub by_numbers : (mode : Mode) (k common p : ℕ) (r : RateNumbers) → 0 < common
+    → IsMultipleOfAll (r.b ∷ r.e ∷ []) common → charge_of mode (weights_of k common r) p ≡ charge_by mode k common r p
+by_numbers mode k common p r some all =
+    let is = λ (n : ℕ). common / n * n ≡ common in
+    let first : common / r.b * r.b ≡ common = All-head is r.b (r.e ∷ []) all in
+    let second : common / r.e * r.e ≡ common = All-head is r.e [] (All-tail is r.b (r.e ∷ []) all) in
+    by_speed mode k common p r (divisor_some common r.b some first) (divisor_some common r.e some second) some
+    (record { first = first; second = second })
 
 -- the charge of an interval in a context, by weights and by the rate's own numbers
-charge-of-tree : (mode : Mode) (t : Tree) (k : ℕ) (x : Context) (p : ℕ) → IsWritable t → IsSound t
+charge-of-tree : (mode : Mode) (t : Tree) (k : ℕ) (x : Context) (p : ℕ) → IsSound t
     → charge_of mode (rate_by t k x) p ≡ charge_by mode k (measure_of t.lines) (rate_in_force (sound_of t) x) p
-charge-of-tree mode t k x p writable sound =
-    let parts = sound_tariffs_have_sound_parts-parts t writable sound in
-    let found = lines_that_hold_are_there-rate t x sound in
-    let place = found.0 in
-    let within = found.2 in
-    let m = measure_of t.lines in
-    let none : RateNumbers = record { a = 0; b = 0; c = 0; e = 0 } in
-    let least = measures_are_least-least t.lines (measures_are_least-sound t sound) in
-    let r = get_or (rates_of t.lines) place none in
-    let numbers : IsSoundRate r = All-get_or IsSoundRate (rates_of t.lines) place none within (parts.choices Rate) in
-    let both = each_divides m (rates_of t.lines) least.multiple place none within in
-    let weights : rate_by t k x ≡ weights_of k m r =
-    ap (λ (o : Option ℕ). get_or (all_weights t k) (unwrap_or o 0) (record { per_pulse = 0; per_tick = 0 })) found.1
-    ∙ get_or-map (weights_of k m) (rates_of t.lines) place none (record { per_pulse = 0; per_tick = 0 }) within in
-    let rate : rate_in_force (sound_of t) x ≡ r =
-    ap (λ (o : Option ℕ). get_or (rates_of t.lines) (unwrap_or o 0) none) found.1 in
-    ap (λ (w : Weights). charge_of mode w p) weights ∙ by_speed mode k m p r numbers.distance.0 numbers.time.0
-    least.positive both ∙ ap (λ (q : RateNumbers). charge_by mode k m q p) (sym rate)
+charge-of-tree mode t k x p sound =
+    ap (λ (w : Weights). charge_of mode w p) (weights_are_those_of_their_rates-rate t k x sound)
+    ∙ by_numbers mode k (measure_of t.lines) p (rate_in_force (sound_of t) x)
+    (measures_are_least-least t.lines (measures_are_least-sound t sound)).positive
+    (measures_are_least-in_force t x sound)
 
 pub charge-at : (s : Setting) (tables : TableParts) (x : Context) (p : ℕ) → IsTariffOf s tables
     → charge_of s.mode (weights_in_force s.tariff s.constant x) p ≡ charge_at s x p
 charge-at s tables x p is =
     subst (λ (t : SoundTariff). charge_of s.mode (weights_in_force t s.constant x) p
     ≡ charge_by s.mode s.constant t.measure (rate_in_force t x) p) (sym is.parts)
-    (charge-of-tree s.mode is.tree s.constant x p is.compiled.writable is.compiled.sound)
+    (charge-of-tree s.mode is.tree s.constant x p is.compiled.sound)
 
 charge-sum : (mode : Mode) (w : Weights) (p : ℕ) → charge_of mode w p ≤ p * w.per_pulse + w.per_tick
 charge-sum Single w p = grind (arith, common_steps)

@@ -5,6 +5,8 @@ use Rattle.meter_states.specs.Common.{Durable, Event, FitsSetting, Meter, Settin
 use Rattle.meter_states.{specs.{Common.{step, whole_run}, Fits.{Fits}}, proofs.Stages.{commits-step, commits-whole}}
 use Rattle.meter_states.{specs.{Pairs.{ArePaired, commits_of}, Setting.{IsTariffOf}}, proofs.HeldFits.{fits-setting}}
 pub use Rattle.meter_model.proofs.Laws.{the_store_keeps_the_trip-begins, the_store_keeps_the_trip-step}
+pub use Rattle.meter_states.proofs.Charges.{by_numbers as charges_by_weights_are_by_the_rates}
+pub use Rattle.meter_states.proofs.Charges.{charge-at as tables_charge_by_the_rate_in_force}
 
 pub receipts_follow_their_entries-run : (s : Setting) (durable : Durable) (events : List Event)
     → ArePaired durable.number None (actions_of s durable events)

@@ -4,6 +4,7 @@
 #![tactic(auto)]
 
 mod cache;
+mod charge_laws;
 mod closing;
 mod contexts;
 mod core_state;
@@ -31,6 +32,7 @@ mod supply_drop;
 mod tick;
 mod trip;
 
+pub use charge_laws::{charges_by_weights_are_by_the_rates, tables_charge_by_the_rate_in_force};
 pub use core_state::Core;
 pub use fitting::fits;
 pub use held_trip_laws::the_store_keeps_the_trip;

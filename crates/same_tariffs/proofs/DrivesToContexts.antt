@@ -4,13 +4,13 @@ use Rattle.std.proofs.Common.{Option, Some, ap, arith, false, if◌then◌else�
 use Rattle.std.proofs.{Common.{subst, suc, sum, sym, true, unsigned_abs, zero}, lemmas.Grind.{common_steps}}
 use Rattle.{std.proofs.Math.Nat.{div-add-mod}, taxi_units.specs.declared.receipt.Display.{Display}}
 use Rattle.taxi_units.specs.{Limits.{last_number}, Time.{first_second, longest_trip}}
-use Rattle.{interval_clock.specs.Calendar.{date_after, date_place, weekday_of}, meter_model.specs.Display.{shown}}
-use Rattle.{drive_text.proofs.Laws.{written_drive_ends, written_drive_means}, meter_model.specs.Step.{expired}}
+use Rattle.{interval_clock.specs.Calendar.{date_after, date_place, weekday_of}, meter_model.specs.Run.{meter_after}}
+use Rattle.{drive_text.proofs.Laws.{written_drive_ends, written_drive_means}, meter_model.specs.Display.{shown}}
 use Rattle.{totals_record.specs.States.{after, first_state}, tariff_check.specs.SoundLookups.{has_date}}
 use Rattle.tariff_check.{specs.declared.values.Initial.{Initial}, proofs.Laws.{sound_tariffs_have_sound_parts-parts}}
 use Rattle.meter_model.specs.{ClosedTrip.{closed, roaming_checked}, Trip.{InHired, Rest, fees_of, ticks_of}}
 use Rattle.meter_model.specs.{Interval.{interval_begun}, Keys.{is_among, key_pressed}, Setting.{under_offset}}
-use Rattle.meter_model.specs.Meter.{◌>>=◌, held}
+use Rattle.meter_model.specs.{Meter.{◌>>=◌, held}, Step.{expired}}
 use Rattle.meter_model.specs.Supply.{aborted, hold_taken, is_within_hold, powered, resumed, turned_off}
 use Rattle.{meter_states.proofs.Laws.{runs_add_up}, same_tariffs.specs.{Common.{with_part}, Contexts.{without_trip}}}
 use Rattle.same_tariffs.specs.Common.{Context, Down, Durable, Event, ForHire, Hire, Hired, IsFromTo, IsMeterContext}
@@ -19,7 +19,7 @@ use Rattle.same_tariffs.specs.Common.{Outcome, Part, Position, Pulses, Setting, 
 use Rattle.same_tariffs.specs.Common.{context_at, context_now, context_of, day_of, display_of, drive_of, fees_in_force}
 use Rattle.same_tariffs.specs.Common.{held_trip, initial_by, last_tick, local_second, minute_of_day, most_pulses}
 use Rattle.same_tariffs.specs.Common.{opened, pulses_in, pulses_of, quiet, refused, run, step, ticks_in, unit_of}
-use Rattle.same_tariffs.specs.Drives.{BeginsIn, IsReached, WasHiredIn, drop, drops, events_to, hire, meter_after}
+use Rattle.same_tariffs.specs.Drives.{BeginsIn, IsReached, WasHiredIn, drop, drops, events_to, hire}
 use Rattle.same_tariffs.proofs.{Trips.{sum-more}, WayTexts.{events-in, way-short}}
 use Rattle.taxi_units.specs.declared.event.Event.TheVariants as events
 use Rattle.taxi_units.specs.declared.event.Why.TheVariants as why

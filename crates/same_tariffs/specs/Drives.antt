@@ -1,10 +1,10 @@
 -- Rules: a drive that leads to a context of a meter.
 use Rattle.std.specs.Prelude.{[], ℕ, ℤ, ◌%◌, ◌*◌, ◌++◌, ◌/◌, ◌∷◌, ◌≡◌, List, Some, replicate, suc, zero}
 use Rattle.{interval_clock.specs.Offsets.{IsOffset}, drive_text.specs.Ending.{Whole, drive_end}}
-use Rattle.{totals_record.specs.States.{first_state}, meter_model.specs.{Setting.{under_offset}, Trip.{fees_of}}}
+use Rattle.meter_model.specs.{Run.{meter_after}, Setting.{under_offset}, Trip.{fees_of}}
 use Rattle.same_tariffs.specs.Common.{Down, Event, Hire, Hired, Meter, MeterContext, MeterTrip, Mode, Position, Pulses}
 use Rattle.same_tariffs.specs.Common.{Setting, Tick, Tree, Up, Zone, context_at, context_of, drive_of, events_of}
-use Rattle.same_tariffs.specs.{Common.{initial_by, opened, run, unit_of}, Contexts.{without_trip}}
+use Rattle.same_tariffs.specs.{Common.{initial_by, unit_of}, Contexts.{without_trip}}
 use Rattle.taxi_units.specs.declared.event.Event.TheVariants as events
 
 -- pulses come without ticks as the supply drops before the end of their interval and comes again at the same second
@@ -43,10 +43,6 @@ pub record WasHiredIn (t : Tree) (s : Setting) (c : MeterContext) (m : Meter) : 
   pub has : m.trip ≡ Some trip
   pub fees : trip.fees ≡ fees_of (initial_by t (context_at t s.constant c))
   pub cover : trip.opening.cover ≡ (initial_by t (context_at t s.constant c)).covers * unit_of s
-
--- the meter after events is the one that they lead to from a store without entries
-abbrev pub meter_after : Setting → List Event → Meter
-meter_after s events = (run s events (opened s first_state)).next
 
 -- a context of a meter is reached under a tariff, a constant, a mode and a hold if under some offset of at most 14
 -- hours a drive leads to an interval in it, of a trip with the fees and the cover of a hiring in the same context

@@ -3,20 +3,20 @@ use Rattle.std.{specs.Prelude.{◌==◌, Bool, false, if◌then◌else◌, is_so
 use Rattle.std.proofs.Common.{[], ℕ, ◌<◌, ◌∙◌, ◌≡◌, ◌≢◌, ◌≤◌, ◌⊎◌, Err, List, None, Ok, Option, Result, Some, ap, arith}
 use Rattle.std.proofs.{Common.{get_or, inl, inr, refl, subst, sym, ⊎_elim}, lemmas.Bool.{cases_lt}}
 use Rattle.outside.specs.{Disk.{IsWithin, MayLeaveAmid, SameBut}, Runs.{IsAtRest as NothingFlies}}
-use Rattle.{outside.proofs.Laws.{leaves_wider}, slot_store.specs.{Sizes.{pair_size}, Writes.{LeavesBeside, WritesIn}}}
-use Rattle.{slot_store.specs.{Scan.{IsAnswer}, Slots.{IsSettled, StandsFor}}, meter_store.specs.Sealing.{totals_found}}
+use Rattle.{outside.proofs.Laws.{leaves_wider}, slot_store.specs.Writes.{LeavesBeside, OrWithin, WritesIn}}
+use Rattle.slot_store.specs.{Scan.{IsAnswer}, Sizes.{pair_size}, Slots.{IsSettled, StandsFor}}
 use Rattle.slot_store.proofs.Laws.{answer_is, at_stands, from_sync_as, goes_on, same_at, settled_already}
 use Rattle.meter_store.specs.Sealing.{FoundSeal, HoldsSealing, IsAmid, IsSealed, LeavesSealing, ScannedSeal, ShowsSeal}
 use Rattle.meter_store.specs.Sealing.{StillHas, first_written, places_written, seal_found, sealed_totals, seals_at}
-use Rattle.{meter_store.proofs.Laws.{seal_is_found}, call_ends.proofs.Laws.{board_or_not, no_fault}}
-use Rattle.{call_ends.specs.Call.{IsEnd}, store_commands.specs.Common.{next_number, old_seal, sealed_line, status_of}}
+use Rattle.{meter_store.{specs.Sealing.{totals_found}, proofs.Laws.{seal_is_found}}, call_ends.specs.Call.{IsEnd}}
+use Rattle.{call_ends.proofs.Laws.{board_or_not, no_fault}, store_commands.proofs.Sealings.{sealing-made, sealing-over}}
 use Rattle.store_commands.specs.Common.{Base, Begins, Blank, Durable, Ended, Found, Ghosts, IsAsHeld, KeepsStore}
 use Rattle.store_commands.specs.Common.{Latest, LeavesFromSync, LeavesOnly, MayHold, Opening, Place, Seal, Sealing}
 use Rattle.store_commands.specs.Common.{SlotFault, StoreFault, found_at, found_number, last_seal_number, line_of}
-use Rattle.store_commands.{specs.Opening.{opening_by, opening_in}, proofs.Sealings.{sealing-made, sealing-over}}
-use Rattle.store_commands.specs.Seal.{HasSealed, MayLeaveSealing, Seals, ShowsByteOf, TotalsStay, over_seal}
-use Rattle.store_commands.specs.Seal.{over_totals, seal_read, sealing_of, sealing_over, sealing_with}
-use Rattle.store_commands.specs.SealSteps.{IsNoSeal, RestsAmid}
+use Rattle.store_commands.specs.Common.{next_number, old_seal, sealed_line, status_of}
+use Rattle.store_commands.specs.{Opening.{opening_by, opening_in}, SealSteps.{IsNoSeal, RestsAmid}}
+use Rattle.store_commands.specs.Seal.{HasSealed, MayLeaveSealing, Seals, ShowsByteOf, StaysBeside, TotalsStay}
+use Rattle.store_commands.specs.Seal.{over_seal, over_totals, seal_read, sealing_of, sealing_over, sealing_with}
 use Rattle.store_commands.proofs.SealLines.{no_memory_other, not_shown, other_line, read_fault_other}
 use Rattle.totals_record.specs.Reading as totals
 use Rattle.meter_store.specs.Stored as states
@@ -83,6 +83,20 @@ amid_found image tariff params (Ok found) (Ok seal) s one two e =
       seal = inl (subst (λ (o : Option Seal). ShowsSeal image o) over.3 (shows_seal image seal two));
     }
 
+-- the found totals have their bytes in the image itself
+totals_same : (found : Option Durable) (image : List ℕ) → TotalsStay found image image
+totals_same None image = tt
+totals_same (Some durable) image = record { size = refl; rest = λ place none. refl }
+
+-- and in one that differs from it only where a sealing writes
+totals_left : (found : Option Durable) (image mid left : List ℕ) (flying : ℕ → Type 0) → mid ≡ image
+    → ((place : ℕ) → ¬ (flying place)) → SameBut (OrWithin flying (first_written found) (places_written found)) mid left
+    → TotalsStay found image left
+totals_left None image mid left flying same quiet beside = tt
+totals_left (Some durable) image mid left flying same quiet beside =
+    subst (λ (i : List ℕ). SameBut (IsWithin seals_at pair_size) i left) same
+    (record { size = beside.size; rest = λ place apart. beside.rest place (⊎_elim (quiet place) apart) })
+
 -- so it may be left, with a text in which no byte of the line stands
 cut_already : (image tariff params printed text : List ℕ)
     → ((number : ℕ) → ¬ (ShowsByteOf (sealed_line number) printed text))
@@ -101,6 +115,7 @@ cut_already image tariff params printed text unseen = by (sealing_of (opening_in
           ((answer_is seals.reads seals.seal_number_of 1024 image
           (found_at seals.reads seals.seal_number_of 1024 image)).0 refl)
           is;
+      beside = totals_same s.totals image;
       behind = λ shown. absurd (unseen s.new.seal_number shown);
     }
 
@@ -131,11 +146,18 @@ module _ {D L : Type 0} {N : ℕ} (B : Ghosts D N L) where
   Made old tariff params = sealing_of (opening_in (B.image old)) tariff params
 
   -- nothing was written
+  stays_read : (sealing : Result Sealing Ended) (flying : ℕ → Type 0) (image now : List ℕ) → SameBut flying image now
+      → StaysBeside sealing flying image now
+  stays_read (Err end) flying image now same = same
+  stays_read (Ok s) flying image now same =
+      record { size = same.size; rest = λ place apart. same.rest place (λ flies. apart (inl flies)) }
+
   pub seals-read : (tariff params : List ℕ) (fails : Type 0) (old new : D) (status : ℕ) → status ≢ 0
-      → (fails → status ≡ 8) → LeavesFromSync B fails old new (IsAsHeld B old)
-      → Seals B (Made old tariff params) old new status
-  seals-read tariff params fails old new status not_0 failed synced = record {
+      → (fails → status ≡ 8) → SameBut (B.in_flight old) (B.image old) (B.image new)
+      → LeavesFromSync B fails old new (IsAsHeld B old) → Seals B (Made old tariff params) old new status
+  seals-read tariff params fails old new status not_0 failed same synced = record {
     sealed = λ z. absurd (not_0 z);
+    stays = stays_read (Made old tariff params) (B.in_flight old) (B.image old) (B.image new) same;
     leaves = from_sync_as B (IsAsHeld B old) (Amid (Made old tariff params) old) fails (status ≡ 8) old new failed
         (λ i x held. rw (held.image, held.text) (cut_still (B.image old) tariff params (B.printed old))) synced;
   }
@@ -194,16 +216,31 @@ module _ {D L : Type 0} {N : ℕ} (B : Ghosts D N L) where
   found-as board seal latest e is =
       subst (λ (f : Option (Place × ℕ)). FoundSeal B board f (old_seal seal)) (sym e) (seal_is_found B board seal is)
 
+  -- what was written over a settled board lies where the sealing writes
+  stays_placed : (s : Sealing) (old mid new : D) → B.image mid ≡ B.image old → NothingFlies B mid
+      → WritesIn B (first_written s.totals) (places_written s.totals) mid new
+      → StaysBeside (Ok s) (B.in_flight old) (B.image old) (B.image new)
+  stays_placed s old mid new same settled writes =
+      subst (λ (image : List ℕ). SameBut (OrWithin (B.in_flight old) (first_written s.totals)
+      (places_written s.totals)) image (B.image new)) same
+      (record {
+        size = writes.rest.size;
+        rest = λ place apart. writes.rest.rest place (⊎_elim (settled place) (λ within. apart (inr within)));
+      })
+
   -- the seal was put in, or the board failed amid it
   seals-placed : (tariff params : List ℕ) (s : Sealing) (fails : Type 0) (old mid new : D) (status : ℕ)
-      → Made old tariff params ≡ Ok s → ¬ fails
+      → Made old tariff params ≡ Ok s → ¬ fails → B.image mid ≡ B.image old → NothingFlies B mid
+      → WritesIn B (first_written s.totals) (places_written s.totals) mid new
       → B.printed mid ≡ B.printed old → LeavesFromSync B fails old mid (IsAsHeld B old) → LeavesSealing B s mid new
       → (status ≡ 0 → IsSealed s (B.image new) × TotalsStay s.totals (B.image old) (B.image new))
       → Seals B (Made old tariff params) old new status
-  seals-placed tariff params s fails old mid new status e went text synced placed is =
+  seals-placed tariff params s fails old mid new status e went same settled writes text synced placed is =
       let sealing = Made old tariff params in
       record {
         sealed = λ z. subst (λ (r : Result Sealing Ended). HasSealed r (B.image old) (B.image new)) (sym e) (is z);
+        stays = subst (λ (r : Result Sealing Ended). StaysBeside r (B.in_flight old) (B.image old) (B.image new))
+            (sym e) (stays_placed s old mid new same settled writes);
         leaves = goes_on B (IsAsHeld B old) (Amid sealing old) fails (status ≡ 8) old mid new went
             (λ i x held. rw (held.image, held.text) (cut_still (B.image old) tariff params (B.printed old))) synced
             (leaves_wider B (LeavesBeside (B.image mid) (B.in_flight mid) (B.printed mid) (first_written s.totals)
@@ -212,6 +249,7 @@ module _ {D L : Type 0} {N : ℕ} (B : Ghosts D N L) where
             (B.printed old) i x) (sym e)
             (record {
               amid = h.stands;
+              beside = totals_left s.totals (B.image old) (B.image mid) i (B.in_flight mid) same settled h.beside.bytes;
               behind = λ shown. absurd
                   (not_shown s.new.seal_number (B.printed old) x (h.beside.text ∙ text) shown);
             })) placed.leaves);
@@ -223,7 +261,8 @@ module _ {D L : Type 0} {N : ℕ} (B : Ghosts D N L) where
       → r ≡ Ok opening → (¬ (r ≡ Err stores.BoardFault) → r ≡ opening_in (B.image old)) → b ≡ Ok base
       → b ≡ over_totals opening.totals opening.seal → number ≡ next_number (found_number base.found)
       → seal_read number base.decimals tariff params ≡ Ok seal → base.found ≡ seal_found opening.seal
-      → ScannedSeal B mid opening.seal
+      → ScannedSeal B mid opening.seal → B.image mid ≡ B.image old → NothingFlies B mid
+      → WritesIn B (first_written base.totals) (places_written base.totals) mid new
       → B.printed mid ≡ B.printed old → LeavesFromSync B (r ≡ Err stores.BoardFault) old mid (IsAsHeld B old)
       → ((found : Option Seal) → FoundSeal B mid base.found found
       → LeavesSealing B (record { totals = base.totals; old = found; new = seal }) mid new)
@@ -231,11 +270,11 @@ module _ {D L : Type 0} {N : ℕ} (B : Ghosts D N L) where
       × TotalsStay base.totals (B.image old) (B.image new))
       → Seals B (Made old tariff params) old new status
   seals-over tariff params r opening b base number seal old mid new status is exact based answer counted read latest
-      scanned text synced placed sealed =
+      scanned same settled writes text synced placed sealed =
       seals-placed tariff params (record { totals = base.totals; old = old_seal opening.seal; new = seal })
       (r ≡ Err stores.BoardFault) old mid new status
       (sealing-made (B.image old) tariff params r opening b base number seal is exact based answer counted read)
-      (no_fault r opening stores.BoardFault is) text synced
+      (no_fault r opening stores.BoardFault is) same settled writes text synced
       (placed (old_seal opening.seal) (found-as mid opening.seal base.found latest scanned)) sealed
 
   -- the store stands for what the sealing says, also behind a cut
@@ -254,13 +293,8 @@ module _ {D L : Type 0} {N : ℕ} (B : Ghosts D N L) where
   -- what is written over found totals lies within the pair of seals
   pub stays_beside : (found : Option Durable) (old mid new : D) → B.image mid ≡ B.image old → NothingFlies B mid
       → WritesIn B (first_written found) (places_written found) mid new → TotalsStay found (B.image old) (B.image new)
-  stays_beside None old mid new same settled writes = tt
-  stays_beside (Some durable) old mid new same settled writes =
-      subst (λ (image : List ℕ). SameBut (IsWithin seals_at pair_size) image (B.image new)) same
-      (record {
-        size = writes.rest.size;
-        rest = λ place apart. writes.rest.rest place (⊎_elim (settled place) apart);
-      })
+  stays_beside found old mid new same settled writes =
+      totals_left found (B.image old) (B.image mid) (B.image new) (B.in_flight mid) same settled writes.rest
 
   kept_totals : (found : Option Durable) (image : List ℕ) → states.HasState image (sealed_totals found)
       → StillHas found image
@@ -268,12 +302,17 @@ module _ {D L : Type 0} {N : ℕ} (B : Ghosts D N L) where
   kept_totals (Some durable) image h = h
 
   pub rests-placed : (sealing : Result Sealing Ended) (s : Sealing) (image printed line : List ℕ) (new : D)
-      → sealing ≡ Ok s → HoldsSealing B s.totals s.new new
-      → RestsAmid B sealing image printed line new
-  rests-placed sealing s image printed line new e h left x held begun =
+      → sealing ≡ Ok s → HoldsSealing B s.totals s.new new → TotalsStay s.totals image (B.image new)
+      → NothingFlies B new → RestsAmid B sealing image printed line new
+  rests-placed sealing s image printed line new e h stays settled left x held begun =
       let is = sealed_left s new h left held.bytes in
       subst (λ (r : Result Sealing Ended). MayLeaveSealing r image printed left x) (sym e)
-      (record { amid = record { totals = kept_totals s.totals left is.totals; seal = inr is }; behind = λ shown. is })
+      (record {
+        amid = record { totals = kept_totals s.totals left is.totals; seal = inr is };
+        beside = subst (λ (i : List ℕ). TotalsStay s.totals image i)
+            (sym (same_left (B.image new) left new refl settled held)) stays;
+        behind = λ shown. is;
+      })
 
   -- nothing flies if both pairs are settled and nothing flew beside what was written
   pub settled-sealed : (found : Option Durable) (seal : Seal) (mid new : D) → NothingFlies B mid
@@ -323,6 +362,8 @@ module _ {D L : Type 0} {N : ℕ} (B : Ghosts D N L) where
   seals-finished sealing old mid new end status told failed before now h rests kept line silent ends = record {
     sealed = λ z. subst (λ (image : List ℕ). HasSealed sealing (B.image old) image) (sym kept.same)
         (h.sealed (zero z ends));
+    stays = subst (λ (image : List ℕ). StaysBeside sealing (B.in_flight old) (B.image old) image) (sym kept.same)
+        h.stays;
     leaves = finished sealing old mid new end status (eight ends) h.leaves rests line silent (board_or_not end);
   }
     where

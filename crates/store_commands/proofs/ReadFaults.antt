@@ -23,3 +23,8 @@ pub not_board-params : (fault : ParamsFault) → ended_for_params fault ≢ ende
 not_board-params params.ReadFault = λ e. absurd cc
 not_board-params (params.Refused why) = λ e. absurd cc
 not_board-params params.NoMemory = λ e. absurd cc
+
+pub no_memory-params : (fault : ParamsFault) → ended_for_params fault ≡ ended.NoMemory → fault ≡ params.NoMemory
+no_memory-params params.ReadFault e = absurd cc
+no_memory-params (params.Refused why) e = absurd cc
+no_memory-params params.NoMemory e = refl

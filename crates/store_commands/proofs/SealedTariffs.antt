@@ -1,10 +1,11 @@
 -- Which text is the sealed tariff, and why another has no tables.
-use Rattle.std.{specs.{Cmp.Lexicographic.{pointwise}, Prelude.{nat_eq}}, proofs.lemmas.Bool.{le-ltb, lt-ltb}}
-use Rattle.std.proofs.Common.{ℕ, ◌<◌, ◌∙◌, ◌≡◌, ◌≤◌, Err, List, ap, false, length, refl, sym, true}
-use Rattle.{sha2.specs.Sha256.{sha256}, call_ends.specs.declared.tariff.Refusal.TheVariants.{TooLong}}
+use Rattle.{std.specs.{Cmp.Lexicographic.{pointwise}, Prelude.{nat_eq, nat_lt}}, call_ends.specs.Tariffs.{checked_in}}
+use Rattle.std.proofs.Common.{ℕ, ◌<◌, ◌∙◌, ◌≡◌, ◌≤◌, Bool, Err, List, Ok, Result, ap, false, if◌then◌else◌, length}
+use Rattle.{std.proofs.{Common.{refl, sym, true}, lemmas.Bool.{le-ltb, lt-ltb, ltb-false}}, sha2.specs.Sha256.{sha256}}
+use Rattle.{tariff_syntax.specs.Parsed.{tree_parsed}, call_ends.specs.declared.tariff.Refusal.TheVariants.{TooLong}}
 use Rattle.call_ends.specs.declared.tariff.TextFault.{TextFault}
-use Rattle.store_commands.specs.{Common.{Ended, Refusal, ended_for, tariff_in}, SealedTariff.{accepted, sealed_tariff}}
-use Rattle.store_commands.specs.TariffSteps.{AreNoTables, IsNoTables}
+use Rattle.store_commands.specs.Common.{Ended, IsOfLines, Refusal, Tree, ended_for, tariff_in}
+use Rattle.store_commands.specs.{SealedTariff.{accepted, sealed_tariff}, TariffSteps.{AreNoTables, IsNoTables}}
 use Rattle.call_ends.specs.declared.ending.Ended.TheVariants as ended
 use Rattle.call_ends.specs.declared.tariff.TextFault.TheVariants as texts
 
@@ -45,3 +46,29 @@ no_tables-as digest text read_failed more ended.NoMemory is h = tt
 no_tables-as digest text read_failed more (ended.BadTariff why) is h = h
 no_tables-as digest text read_failed more (ended.WrongTariff sealed own) is h = h
 no_tables-as digest text read_failed more why is h = absurd h
+
+-- ---- memory
+
+-- a text wasn't read for want of memory only if the call says so
+pub no_memory-text : (fault : TextFault) → ended_for fault ≡ ended.NoMemory → fault ≡ texts.NoMemory
+no_memory-text texts.ReadFault is = absurd cc
+no_memory-text (texts.Refused why) is = absurd cc
+no_memory-text texts.NoMemory is = refl
+
+-- a text that has a sound tariff is one of tariff lines
+lines_of_parsed : (text : List ℕ) (r : Result Tree ℕ) (t : Tree) → length text ≤ 65536 → tree_parsed text ≡ r
+    → checked_in r ≡ Ok t → IsOfLines text
+lines_of_parsed text (Ok tree) t few parsed is = record { few = few; tree = tree; reads = parsed }
+lines_of_parsed text (Err line) t few parsed is = absurd (let e : checked_in (Err line) ≡ Ok t = is in cc)
+
+pub lines_of_sound : (text : List ℕ) (t : Tree) → tariff_in text ≡ Ok t → IsOfLines text
+lines_of_sound text t is = by (nat_lt 65536 (length text)) refl
+  where
+    by : (long : Bool) → nat_lt 65536 (length text) ≡ long → IsOfLines text
+    by true e =
+        let none : ◌≡◌ {A = Result Tree Refusal} (Err TooLong) (Ok t) =
+        sym (ap (λ (b : Bool). if b then Err TooLong else checked_in (tree_parsed text)) e) ∙ is in
+        absurd cc
+    by false e =
+        lines_of_parsed text (tree_parsed text) t (ltb-false 65536 (length text) e) refl
+        (sym (ap (λ (b : Bool). if b then Err TooLong else checked_in (tree_parsed text)) e) ∙ is)

@@ -10,11 +10,11 @@ pub use Rattle.seal_record.specs.{Limits.{last_seal_number}, declared.{params.Pa
 pub use Rattle.seal_record.specs.{PlainText.{comment_line, ended_text}, declared.params.ParamFault.{ParamFault}}
 pub use Rattle.{seal_record.specs.Ranges.{IsSeal}, tariff_tree.specs.Tree.{Tree, tree_of}}
 pub use Rattle.meter_store.specs.Sealing.{Sealing, found_number, next_number, old_seal}
-pub use Rattle.{shift_book.specs.{BookReading.{book_read}, MarkOrder.{numbers_in}}, call_ends.specs.Tariffs.{tariff_in}}
-pub use Rattle.call_ends.specs.{Answer.{Answer, shows}, LastLine.{line_of, refused_as, sealed_line, status_of}}
-pub use Rattle.call_ends.specs.{Carried.{Carries, no_files}, Ending.{EndsByCourse, LeavesStoreUnwritten, ended_for}}
+pub use Rattle.{shift_book.specs.{BookReading.{book_read}, MarkOrder.{numbers_in}}, call_ends.specs.Reads.{ReadsWord}}
+pub use Rattle.call_ends.specs.{Answer.{Answer, shows}, Making.{Makes, PrintsOut, end_made, text_made}}
+pub use Rattle.call_ends.specs.{Carried.{Carries, no_files}, LastLine.{line_of, refused_as, sealed_line, status_of}}
 pub use Rattle.call_ends.specs.Course.{Answered, Command, store_command}
-pub use Rattle.call_ends.specs.{Making.{Makes, PrintsOut, end_made, text_made}, Reads.{ReadsWord}}
+pub use Rattle.call_ends.specs.{Ending.{EndsByCourse, LeavesStoreUnwritten, ended_for}, Tariffs.{IsOfLines, tariff_in}}
 pub use Rattle.call_ends.specs.declared.ending.Ended.{Ended, TheVariants.{BadParams, BadTariff, BoardFault, NoMemory}}
 pub use Rattle.call_ends.specs.declared.{ending.Ended.TheVariants.{OtherDecimals, ReadFault}, tariff.Refusal.{Refusal}}
 pub use Rattle.store_commands.specs.declared.{offsets.RulesFault.{RulesFault}, opening.StoreFault.{StoreFault}}

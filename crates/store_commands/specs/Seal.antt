@@ -2,12 +2,13 @@
 use Rattle.std.specs.Prelude.{[], ℕ, ◌++◌, ◌+◌, ◌<◌, ◌==◌, ◌≡◌, ◌≤◌, ◌⊎◌, Err, List, None, Ok, Option, Result, Some}
 use Rattle.std.specs.Prelude.{if◌then◌else◌, is_some, take}
 use Rattle.{sha2.specs.Sha256.{sha256}, outside.specs.Disk.{IsWithin, SameBut}, slot_store.specs.Sizes.{pair_size}}
-use Rattle.{seal_record.specs.Reading.{params_read}, meter_store.specs.Sealing.{IsAmid, IsSealed, seals_at}}
+use Rattle.{slot_store.specs.Writes.{OrWithin}, seal_record.specs.Reading.{params_read}}
+use Rattle.meter_store.specs.Sealing.{IsAmid, IsSealed, first_written, places_written, seals_at}
 use Rattle.call_ends.specs.{Answer.{shows_line}, declared.ending.Ended.TheVariants.{SealEnded, TripHeld}}
 use Rattle.store_commands.specs.Common.{Answer, BadParams, BadTariff, Base, Blank, Command, Durable, Ended, Found}
-use Rattle.store_commands.specs.Common.{Ghosts, Latest, LeavesFromSync, Opening, OtherDecimals, ParamFault, Params}
-use Rattle.store_commands.specs.Common.{Refusal, Seal, Sealing, StoreFault, Tree, found_number, last_seal_number}
-use Rattle.store_commands.specs.Common.{next_number, old_seal, refused_as, sealed_line, tariff_in}
+use Rattle.store_commands.specs.Common.{Ghosts, IsOfLines, Latest, LeavesFromSync, Opening, OtherDecimals, ParamFault}
+use Rattle.store_commands.specs.Common.{Params, Refusal, Seal, Sealing, StoreFault, Tree, found_number}
+use Rattle.store_commands.specs.Common.{last_seal_number, next_number, old_seal, refused_as, sealed_line, tariff_in}
 use Rattle.store_commands.specs.Opening.{opening_in, store_ended}
 
 -- ---- what is sealed over
@@ -71,6 +72,12 @@ pub record HasDecimals (found : Option ℕ) (tariff : List ℕ) : Type 0 where
   pub tree : Tree
   pub sound : tariff_in tariff ≡ Ok tree
   pub decimals : are_decimals found tree.decimals ≡ Ok tt
+
+-- memory may run out as a seal is made of two texts if nothing was read of the parameters, and nothing of the tariff or
+-- it is one of tariff lines
+pub record MayLackTexts (contents left : ℕ → List ℕ) : Type 0 where
+  pub params : left 2 ≡ contents 2
+  pub tariff : (left 1 ≡ contents 1) ⊎ IsOfLines (contents 1)
 
 -- ---- the answer
 
@@ -140,6 +147,14 @@ abbrev pub HasSealed : Result Sealing Ended → (image now : List ℕ) → Type 
 HasSealed (Err ended) image now = ⊥
 HasSealed (Ok sealing) image now = IsSealed sealing now × TotalsStay sealing.totals image now
 
+-- whatever the end is, what lies beside a sealing stays if the image before and the one now differ only at places that
+-- were in flight before, and at those that the sealing may write: in the pair of seals, and in both pairs if no totals
+-- were found. Without a sealing they differ only at places that were in flight before.
+abbrev pub StaysBeside : Result Sealing Ended → (in_flight : ℕ → Type 0) → (image now : List ℕ) → Type 0
+StaysBeside (Err ended) in_flight image now = SameBut in_flight image now
+StaysBeside (Ok sealing) in_flight image now =
+    SameBut (OrWithin in_flight (first_written sealing.totals) (places_written sealing.totals)) image now
+
 -- a text shows a byte of a line if it is what was `printed` before, and behind that one or more of the line's first
 -- bytes
 pub record ShowsByteOf (line printed text : List ℕ) : Type 0 where
@@ -147,22 +162,24 @@ pub record ShowsByteOf (line printed text : List ℕ) : Type 0 where
   pub some : 0 < count
   pub is : text ≡ printed ++ take count line
 
--- a cut of a sealing may leave an image amid the sealing, and a text that shows a byte of the line `SEALED n` only if
--- the image has been sealed
-pub record IsSealCut (sealing : Sealing) (printed left_image left_text : List ℕ) : Type 0 where
+-- a cut of a sealing may leave an image amid the sealing, in which the found totals have their bytes, and a text that
+-- shows a byte of the line `SEALED n` only if the image has been sealed
+pub record IsSealCut (sealing : Sealing) (image printed left_image left_text : List ℕ) : Type 0 where
   pub amid : IsAmid sealing left_image
+  pub beside : TotalsStay sealing.totals image left_image
   pub behind : ShowsByteOf (sealed_line sealing.new.seal_number) printed left_text → IsSealed sealing left_image
 
 -- from the opening sync on a cut may leave what a cut of the sealing may leave, or the opening image if nothing is
 -- sealed
 abbrev pub MayLeaveSealing : Result Sealing Ended → (image printed left_image left_text : List ℕ) → Type 0
 MayLeaveSealing (Err ended) image printed left_image left_text = left_image ≡ image
-MayLeaveSealing (Ok sealing) image printed left_image left_text = IsSealCut sealing printed left_image left_text
+MayLeaveSealing (Ok sealing) image printed left_image left_text = IsSealCut sealing image printed left_image left_text
 
 module _ {D L : Type 0} {N : ℕ} (B : Ghosts D N L) where
-  -- a call seals the store if at 0 the store stands for what the sealing says. A cut from the opening sync on leaves
-  -- what a cut of the sealing may leave; one before that sync has succeeded leaves what it might have left before the
-  -- call.
+  -- a call seals the store if at 0 the store stands for what the sealing says, and if at each end, also at 8, what lies
+  -- beside the sealing stays. A cut from the opening sync on leaves what a cut of the sealing may leave; one before that
+  -- sync has succeeded leaves what it might have left before the call.
   pub record Seals (sealing : Result Sealing Ended) (old new : D) (ended : ℕ) : Type 0 where
     pub sealed : ended ≡ 0 → HasSealed sealing (B.image old) (B.image new)
+    pub stays : StaysBeside sealing (B.in_flight old) (B.image old) (B.image new)
     pub leaves : LeavesFromSync B (ended ≡ 8) old new (MayLeaveSealing sealing (B.image old) (B.printed old))

@@ -1,9 +1,9 @@
 //! The command `seal`.
 ghost use Rattle.std.specs.{Option.{ForSome}, Prelude.{[], ◌<◌, ◌≡◌, ◌≢◌, ◌≤◌, ◌⊎◌, Err, IfOk, Ok, OnOk}};
 ghost use Rattle.{slot_store.specs.Scan.{IsValidFinding}, meter_store.specs.Sealing.{seal_found, totals_found}};
-ghost use Rattle.store_commands.specs.Common.{Carries, IsSeal, found_number, last_seal_number, next_number};
-ghost use Rattle.store_commands.specs.{Opened.{IsOpeningInRange}, Seal.{HasDecimals, seal_command, seal_read}};
-ghost use Rattle.store_commands.specs.ReadInTurn.{HasFailed, ReadsInTurn};
+ghost use Rattle.store_commands.specs.Common.{Carries, IsOfLines, IsSeal, found_number, last_seal_number, next_number};
+ghost use Rattle.store_commands.specs.{Opened.{IsOpeningInRange}, ReadInTurn.{HasFailed, ReadsInTurn}};
+ghost use Rattle.store_commands.specs.Seal.{HasDecimals, MayLackTexts, seal_command, seal_read};
 ghost use Rattle.store_commands.specs.SealSteps.{IsNoSeal, IsNoTariff, IsTariffWith, SealReachesLine};
 ghost use Rattle.store_commands.specs.Seal as spec;
 
@@ -99,6 +99,7 @@ fn decimals_of(alloc: Global, text: &[u8], found: Option<u8>) -> Result<u8, Ende
     ensures range { IfOk result (λ decimals. decimals ≤ 3) }
     ensures sound { IfOk result (λ decimals. IsTariffWith found decimals text.now) }
     ensures refused { (ended : Ended) → result ≡ Err ended → IsNoTariff found text.now ended }
+    ensures memory { result ≡ Err Ended.NoMemory → IsOfLines text.now }
 {
     let decimals = match tariff_of_text(alloc, text) {
         Ok(checked) => checked.decimals(),
@@ -124,6 +125,7 @@ fn read_seal<F: Files>(
     ensures params_ended { F.tells → OnOk result (F.rest files.new 2 ≡ []) }
     ensures refused { (why : Ended) → F.tells → result ≡ Err why
         → IsNoSeal number found (F.rest files.old 1) (F.rest files.old 2) (HasFailed F.Files files.old files.new) why }
+    ensures memory { F.tells → result ≡ Err Ended.NoMemory → MayLackTexts (F.rest files.old) (F.rest files.new) }
     ensures not_board { result ≢ Err Ended.BoardFault }
     ensures reads { ReadsInTurn F.Files 1 2 (HasDecimals found (F.rest files.old 1)) (result ≡ Err Ended.ReadFault)
         files.old files.new }
@@ -167,6 +169,7 @@ pub fn seal_store<F: Files, B: Board<STORE_SIZE, L>, L: Ledger>(
 ) -> Ended
     ensures carries { Carries F.Files B.Printer seal_command files.old files.new board.old board.new
         steps.old steps.new result }
+    ensures memory { F.tells → result ≡ Ended.NoMemory → MayLackTexts (F.rest files.old) (F.rest files.new) }
     ensures comes { F.tells → B.tells_image → SealReachesLine F.Files B.Printer files.old board.old board.new result }
 {
     let opening = match open_store(board, steps) {

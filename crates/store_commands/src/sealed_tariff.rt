@@ -1,6 +1,7 @@
 //! Reads the tariff that was sealed.
 ghost use Rattle.std.specs.{Cmp.Lexicographic.{pointwise}, Prelude.{◌≡◌, ◌≤◌, Err, IfOk, Ok, length, nat_eq}};
-ghost use Rattle.store_commands.specs.{Common.{ReadsWord, Rose, tariff_in, tree_of}, SealedTariff.{sealed_tariff}};
+ghost use Rattle.store_commands.specs.Common.{IsOfLines, ReadsWord, Rose, tariff_in, tree_of};
+ghost use Rattle.store_commands.specs.SealedTariff.{HasSealedLines, MayLackSealed, sealed_tariff};
 ghost use Rattle.store_commands.specs.TariffSteps.{AreNoTables, IsNoTables};
 
 use call_ends::{Ended, refused_by, tariff_of_text, text_of_word};
@@ -20,6 +21,7 @@ fn is_sealed(digest: &[u8; 32], own: &[u8; 32]) -> bool
 fn tariff_of(alloc: Global, text: &[u8]) -> Result<Checked, Ended>
     ensures found { IfOk result (λ checked. tariff_in text.now ≡ Ok (tree_of checked)) }
     ensures refused { (why : Ended) → result ≡ Err why → IsNoTables text.now why }
+    ensures memory { result ≡ Err Ended.NoMemory → IsOfLines text.now }
 {
     match tariff_of_text(alloc, text) {
         Ok(checked) => Ok(checked),
@@ -32,6 +34,7 @@ fn sealed_of_text(alloc: Global, text: &[u8], digest: &[u8; 32]) -> Result<Check
     requires { length text.now ≤ 65536 }
     ensures found { IfOk result (λ checked. sealed_tariff digest.now text.now ≡ Ok (tree_of checked)) }
     ensures refused { (why : Ended) → result ≡ Err why → AreNoTables digest.now text.now ⊥ why }
+    ensures memory { result ≡ Err Ended.NoMemory → HasSealedLines digest.now text.now }
 {
     let own = Sha256::digest(text);
     if is_sealed(digest, &own) {
@@ -41,7 +44,8 @@ fn sealed_of_text(alloc: Global, text: &[u8], digest: &[u8; 32]) -> Result<Check
     Err(Ended::WrongTariff(digest, own))
 }
 
-/// Reads the sealed tariff from word 1. It asks for the length of the text before its digest.
+/// Reads the sealed tariff from word 1. It asks for the length of the text before its digest. `NoMemory` comes only if
+/// nothing was read, or if the text has the sealed digest and the lines of a tariff.
 pub fn read_sealed<F: Files>(
     alloc: Global,
     files: &mut F,
@@ -51,6 +55,8 @@ pub fn read_sealed<F: Files>(
         → IfOk result (λ checked. sealed_tariff digest.now (F.rest files.old 1) ≡ Ok (tree_of checked)) }
     ensures refused { (why : Ended) → F.tells → result ≡ Err why
         → AreNoTables digest.now (F.rest files.old 1) (Rose (F.faults files.old 1) (F.faults files.new 1)) why }
+    ensures memory { F.tells → result ≡ Err Ended.NoMemory
+        → MayLackSealed digest.now (F.rest files.old 1) (F.rest files.new 1) }
     ensures reads { ReadsWord F.Files 1 files.old files.new result }
 {
     let text = match text_of_word(alloc, files, 1) {

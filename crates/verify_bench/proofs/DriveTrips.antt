@@ -3,9 +3,9 @@
 -- closed it.
 use Rattle.std.proofs.Common.{[], ℕ, ◌++◌, ◌∙◌, ◌∷◌, ◌≡◌, All, List, None, Option, Some, ap, append_assoc, map}
 use Rattle.std.proofs.{Common.{option_map, refl, subst, sum, sym}, lemmas.List.Elements.{All-append, All-cons, All-nil}}
-use Rattle.{std.proofs.lemmas.List.{append-nil}, meter_model.specs.{KeptTrip.{with_parts}, Trip.{with_extra}}}
-use Rattle.verify_bench.specs.ClosedTrips.{HasTrip, Hires, IsClosedTrip, Lasts, TripOf, interval_in, meter_after}
-use Rattle.verify_bench.{specs.ClosedTrips.{parts_by, parts_over, rest_in}, proofs.Benches.{same_latch, same_operating}}
+use Rattle.{std.proofs.lemmas.List.{append-nil}, meter_model.specs.{KeptTrip.{with_parts}, Run.{meter_after}}}
+use Rattle.{meter_model.specs.Trip.{with_extra}, verify_bench.specs.ClosedTrips.{Hires, IsClosedTrip, TripOf}}
+use Rattle.meter_model.specs.TripParts.{IsOnTrip, Lasts, interval_in, parts_by, parts_over, rest_in}
 use Rattle.verify_bench.specs.Common.{Context, Event, ForHire, Hired, InHired, InStopped, IsSupplementNumber}
 use Rattle.verify_bench.specs.Common.{IsTripKept, Key, Meter, MeterTrip, Off, Operating, Part, Receipt, Rest, Setting}
 use Rattle.verify_bench.specs.Common.{Stopped, context_now, context_of, counted_in, ended, ended_in, first_state}
@@ -13,6 +13,7 @@ use Rattle.verify_bench.specs.Common.{interval_counted, left_in, opened, run, st
 use Rattle.verify_bench.specs.{Receipts.{receipts_in}, TripExplanations.{explanations_of, hired_at, hired_by, trip_at}}
 use Rattle.verify_bench.specs.TripExplanations.{Explanation, explanation, explanations_from, explanations_in}
 use Rattle.verify_bench.{specs.Wholes.{BeganIn, IsOfText, IsOfTrip, IsReceiptAmong}, proofs.AmountSums.{all_numbers}}
+use Rattle.verify_bench.proofs.Benches.{same_latch, same_operating}
 use Rattle.verify_bench.proofs.Explanations.{AreOf, Goes, IsReceiptOf, begun_at, none_counted, none_kept, step_goes}
 use Rattle.meter_model.proofs.Laws as states
 use Rattle.taxi_units.specs.declared.event.Event.TheVariants as events
@@ -157,7 +158,7 @@ next_over : (s : Setting) (xs ys : List Event) (m : Meter)
     → (run s (xs ++ ys) m).next ≡ (run s ys (run s xs m).next).next
 next_over s xs ys m = ap (λ o. o.next) (states.run-append s xs ys m)
 
-lasts_more : (s : Setting) (xs : List Event) (event : Event) (m : Meter) → Lasts s xs m → HasTrip (run s xs m).next
+lasts_more : (s : Setting) (xs : List Event) (event : Event) (m : Meter) → Lasts s xs m → IsOnTrip (run s xs m).next
     → Lasts s (xs ++ event ∷ []) m
 lasts_more s [] event m lasts has = (has, tt)
 lasts_more s (x ∷ xs) event m lasts has = (lasts.0, lasts_more s xs event (step s x m).next lasts.1 has)

@@ -1,65 +1,20 @@
-use Rattle.std.proofs.Common.{[], ℕ, ◌++◌, ◌+◌, ◌-◌, ◌∙◌, ◌≡◌, ◌≤◌, List, Ok, ap, arith, is_err, length, length-take}
-use Rattle.std.proofs.{Common.{min, refl, rules, sym, take}, lemmas.{List.{append-nil}, Result.{err_from_is_err_and}}}
-use Rattle.outside.proofs.Laws.{keeps_none, keeps_then, left_by_ok, may_rise_behind, may_rise_more, may_rise_not}
-use Rattle.{outside.proofs.Laws.{rises_behind, rises_not, rose_behind}, data_port.specs.Common.{BoardFault, TooLong}}
-use Rattle.data_port.{specs.Reading.{Standing}, proofs.Causes.{end_is_not}}
-use Rattle.data_port.proofs.Pieces.{more_steps, read_is_no_fault, served_end, served_err, served_long, served_more}
+use Rattle.std.proofs.{Common.{[], ◌-◌, ◌∙◌, ◌≡◌, None, ap, arith, refl, rules, sym}, lemmas.List.{append-nil}}
+use Rattle.{std.proofs.lemmas.Result.{err_from_is_err_and}, data_port.specs.Common.{BoardFault, TooLong}}
+use Rattle.{outside.proofs.Laws.{keeps_none, keeps_then, may_rise_not, rises_not}, data_port.specs.Reading.{Standing}}
+use Rattle.data_port.proofs.Pieces.{served_long, served_next, stopped, stopped_steps, stopped_whole, whole_steps}
 use Rattle.data_port.proofs.serving.serve.Goals as goal
 
--- after a read of no bytes the same is left
-nothing_left : (n : ℕ) (buf old new : List ℕ) → n ≡ 0 → old ≡ take n buf ++ new → old ≡ [] → new ≡ []
-nothing_left n buf old new none e empty = sym (e ∙ ap (λ (k : ℕ). take k buf ++ new) none) ∙ empty
-
--- the bytes of a piece
-size_of_front : (front piece : List ℕ) (count most left : ℕ) → front ≡ take count piece → count ≤ most
-    → most ≡ min left 512 → length piece ≡ 512 → length front ≡ count
-size_of_front front piece count most left is within least long =
-    omega (arith, ap length is, within, least, long, length-take count piece)
-
-pub returns-then-count-eq0 : goal.returns-then-count-eq0
-returns-then-count-eq0 g c = record {
-  serves =
-      let over : g.F.Files.tells → g.F.Files.rest c.loop-left.files c.args.word ≡ [] =
-      λ told. c.read_piece.ensures.over told (c.in-Ok.is ∙ ap Ok c.if-count-eq0.true) in
-      served_end c.loop-left.invariant.so_far c.end.result (g.F.Files.rest c.read_piece.new.files c.args.word)
-      (omega (arith, c.loop-left-test.true)) over (λ told. nothing_left c.in-Ok.count c.read_piece.new.piece
-      (g.F.Files.rest c.loop-left.files c.args.word) (g.F.Files.rest c.read_piece.new.files c.args.word)
-      c.if-count-eq0.true (c.in-Ok.ensures.taken told) (over told)) c.end.ensures.whole c.end.ensures.bad;
+pub returns : goal.returns
+returns g c = record {
+  serves = served_long c.loop-left.invariant.so_far (omega (arith, c.loop-left-test.false));
   steps = search rules;
-  others = λ other ne. c.read_piece.ensures.others other ne ∙ c.loop-left.invariant.others other ne;
+  others = c.loop-left.invariant.others;
   read_fault = search rules;
-  board_fault = rises_not (end_is_not _ c.end.result c.end.ensures.bad)
+  board_fault = rises_not (λ same. absurd (let bad : TooLong ≡ BoardFault = cc in cc))
       c.loop-left.invariant.faults;
-  counts = λ other. may_rise_not (left_by_ok c.read_piece.result _ c.in-Ok.is (c.read_piece.ensures.counts other)
-      ∙ c.loop-left.invariant.counts other);
+  counts = λ other. may_rise_not (c.loop-left.invariant.counts other);
   store = c.loop-left.invariant.store;
 }
-
-pub returns-in_err-serve_piece : goal.returns-in_err-serve_piece
-returns-in_err-serve_piece g c =
-    let p = err_from_is_err_and c.from_residual.result c.from_residual.ensures.1 in
-    record {
-      serves =
-          let size : length c.front-bytes.result.now ≡ c.in-Ok.count =
-          size_of_front c.front-bytes.result.now c.read_piece.new.piece c.in-Ok.count c.min-most.result c.loop-left.left
-          c.front-bytes.ensures c.in-Ok.ensures.within c.min-most.ensures c.read_piece.array_long in
-          rw (p.1, p.2) (served_err c.loop-left.invariant.so_far c.in_err-serve_piece.field-0.0 c.serve_piece.new.port
-          c.front-bytes.result.now (g.F.Files.rest c.read_piece.new.files c.args.word) (g.B.Printer.printed
-          c.serve_piece.new.board) (omega (arith, size, c.in-Ok.ensures.within, c.min-most.ensures))
-          (λ k. rw c.front-bytes.ensures (c.in-Ok.ensures.taken k)) c.in_err-serve_piece.ensures.serves);
-      steps = more_steps c.loop-left.invariant.so_far c.front-bytes.result.now
-          (g.F.Files.rest c.read_piece.new.files c.args.word)
-          c.serve_piece.new.steps (λ k. rw c.front-bytes.ensures (c.in-Ok.ensures.taken k)) c.serve_piece.ensures.steps;
-      others = λ other ne. c.read_piece.ensures.others other ne ∙ c.loop-left.invariant.others other ne;
-      read_fault = search rules;
-      board_fault = rw (p.1, p.2)
-          (rw c.in_err-serve_piece.was at (rises_behind c.loop-left.invariant.faults
-          c.serve_piece.ensures.board_fault));
-      counts = λ other. may_rise_not (left_by_ok c.read_piece.result _ c.in-Ok.is (c.read_piece.ensures.counts other)
-          ∙ c.loop-left.invariant.counts other);
-      store = keeps_then g.B.Printer c.args.board.now c.loop-left.board
-          c.serve_piece.new.board c.loop-left.invariant.store c.serve_piece.ensures.store;
-    }
 
 pub loop-left-init : goal.loop-left-init
 loop-left-init g c = record {
@@ -79,48 +34,48 @@ loop-left-init g c = record {
   store = keeps_none g.B.Printer c.args.board.now;
 }
 
+-- it stops
+pub returns-in_err-next-clause-serves : goal.returns-in_err-next-clause-serves
+returns-in_err-next-clause-serves g c =
+    let p = err_from_is_err_and c.from_residual.result c.from_residual.ensures.1 in
+    rw (p.1, p.2) (stopped c.loop-left.invariant.so_far c.in_err-next.field-0.0 c.serve_next.new.port
+    (g.F.Files.rest c.serve_next.new.files c.args.word) (g.B.Printer.printed c.serve_next.new.board) c.min-most.result
+    c.serve_next.new.steps (omega (arith, c.loop-left-test.true)) (omega (arith, c.min-most.ensures))
+    c.in_err-next.ensures.stops)
+
+pub returns-in_err-next-clause-steps : goal.returns-in_err-next-clause-steps
+returns-in_err-next-clause-steps g c =
+    stopped_steps c.loop-left.invariant.so_far c.in_err-next.field-0.0 c.serve_next.new.port
+    (g.F.Files.rest c.serve_next.new.files c.args.word) (g.B.Printer.printed c.serve_next.new.board) c.min-most.result
+    c.serve_next.new.steps c.in_err-next.ensures.stops
+
+-- it has come to the end
+pub returns-in-None-clause-serves : goal.returns-in-None-clause-serves
+returns-in-None-clause-serves g c =
+    stopped_whole c.loop-left.invariant.so_far c.serve_next.new.port
+    (g.F.Files.rest c.serve_next.new.files c.args.word) (g.B.Printer.printed c.serve_next.new.board) c.min-most.result
+    c.serve_next.new.steps (omega (arith, c.loop-left-test.true))
+    (rw c.in-None.is at c.in_ok-next.ensures.stops)
+
+pub returns-in-None-clause-steps : goal.returns-in-None-clause-steps
+returns-in-None-clause-steps g c =
+    whole_steps c.loop-left.invariant.so_far c.serve_next.new.port
+    (g.F.Files.rest c.serve_next.new.files c.args.word) (g.B.Printer.printed c.serve_next.new.board) c.min-most.result
+    c.serve_next.new.steps None (rw c.in-None.is at c.in_ok-next.ensures.stops)
+
+-- it goes on
 pub loop-left-preserved : goal.loop-left-preserved
 loop-left-preserved g c =
-    let size : length c.front-bytes.result.now ≡ c.in-Ok.count =
-    size_of_front c.front-bytes.result.now c.read_piece.new.piece c.in-Ok.count c.min-most.result c.loop-left.left
-    c.front-bytes.ensures c.in-Ok.ensures.within c.min-most.ensures c.read_piece.array_long in
-    let fewer : c.loop-left.left - c.in-Ok.count + length c.front-bytes.result.now ≡ c.loop-left.left =
-    omega (arith, size, c.in-Ok.ensures.within, c.min-most.ensures) in
-    let serves = c.in_ok-serve_piece.ensures.serves in
+    let more = rw c.in-Some.is at c.in_ok-next.ensures.more in
     record {
-      so_far = served_more c.loop-left.invariant.so_far c.serve_piece.new.port c.front-bytes.result.now (g.F.Files.rest
-          c.read_piece.new.files c.args.word) (g.B.Printer.printed c.serve_piece.new.board) (c.loop-left.left
-          - c.in-Ok.count) c.serve_piece.new.steps (λ k. rw c.front-bytes.ensures (c.in-Ok.ensures.taken k)) serves.0
-          serves.1 fewer serves.2 c.serve_piece.ensures.steps;
-      others = λ other ne. c.read_piece.ensures.others other ne ∙ c.loop-left.invariant.others other ne;
-      counts = λ other. left_by_ok c.read_piece.result _ c.in-Ok.is (c.read_piece.ensures.counts other)
+      so_far = served_next c.loop-left.invariant.so_far c.serve_next.new.port
+          (g.F.Files.rest c.serve_next.new.files c.args.word) (g.B.Printer.printed c.serve_next.new.board)
+          c.in-Some.count (c.loop-left.left - c.in-Some.count) c.serve_next.new.steps
+          (omega (arith, more.0, c.min-most.ensures)) more.1;
+      others = λ other ne. c.serve_next.ensures.others other ne ∙ c.loop-left.invariant.others other ne;
+      counts = λ other. (c.in_ok-next.ensures.counts other).kept (λ no. absurd cc)
           ∙ c.loop-left.invariant.counts other;
-      faults = c.in_ok-serve_piece.ensures.board_fault.kept (λ no. absurd cc) ∙ c.loop-left.invariant.faults;
-      store = keeps_then g.B.Printer c.args.board.now c.loop-left.board c.serve_piece.new.board
-          c.loop-left.invariant.store c.serve_piece.ensures.store;
+      faults = c.in_ok-next.ensures.board_fault.kept (λ no. absurd cc) ∙ c.loop-left.invariant.faults;
+      store = keeps_then g.B.Printer c.args.board.now c.loop-left.board c.serve_next.new.board
+          c.loop-left.invariant.store c.serve_next.ensures.store;
     }
-
-pub returns : goal.returns
-returns g c = record {
-  serves = served_long c.loop-left.invariant.so_far (omega (arith, c.loop-left-test.false));
-  steps = search rules;
-  others = c.loop-left.invariant.others;
-  read_fault = search rules;
-  board_fault = rises_not (λ same. absurd (let bad : TooLong ≡ BoardFault = cc in cc))
-      c.loop-left.invariant.faults;
-  counts = λ other. may_rise_not (c.loop-left.invariant.counts other);
-  store = c.loop-left.invariant.store;
-}
-
-pub returns-in-Err : goal.returns-in-Err
-returns-in-Err g c = record {
-  serves = search rules;
-  steps = search rules;
-  others = λ other ne. c.read_piece.ensures.others other ne ∙ c.loop-left.invariant.others other ne;
-  read_fault = λ same. rose_behind _ _ _ (c.loop-left.invariant.counts c.args.word)
-      (c.read_piece.ensures.cause.failed (ap is_err c.in-Err.is));
-  board_fault = rises_not (read_is_no_fault ⊥) c.loop-left.invariant.faults;
-  counts = λ other. may_rise_behind (c.loop-left.invariant.counts other) (may_rise_more (λ failed. refl)
-      (c.read_piece.ensures.counts other));
-  store = c.loop-left.invariant.store;
-}

@@ -1,10 +1,12 @@
-use Rattle.std.proofs.Common.{ℕ, ◌∙◌, ◌≡◌, Err, List, Ok, Option, Result, ap, arith, refl, subst, sym}
+use Rattle.std.proofs.Common.{ℕ, ◌∙◌, ◌≡◌, Err, List, Ok, Option, Result, ap, arith, inl, inr, refl, subst, sym}
 use Rattle.{std.proofs.lemmas.Result.{err_from_is_err_and}, sha2.specs.Sha256.{sha256}}
 use Rattle.{seal_record.specs.Reading.{params_read}, call_ends.proofs.Laws.{no_fault, read_fault-text, same_fault}}
-use Rattle.store_commands.specs.{Common.{Ended, Params, Refusal, Rose, Tree, ended_for}, StoreEnds.{ended_for_params}}
+use Rattle.store_commands.specs.Common.{Ended, IsOfLines, Params, Refusal, Rose, Tree, ended_for}
 use Rattle.store_commands.specs.Seal.{HasDecimals, seal_read, seal_with_tariff, where_decimals, with_params}
-use Rattle.store_commands.{specs.SealSteps.{IsNoSeal}, proofs.Sealings.{no_seal-tariff, no_tariff-fault}}
-use Rattle.store_commands.proofs.{ReadFaults.{not_board-params, read_fault-params}, Turns.{first_alone, first_then}}
+use Rattle.store_commands.specs.SealSteps.{IsNoSeal}
+use Rattle.store_commands.{specs.StoreEnds.{ended_for_params}, proofs.Sealings.{no_seal-tariff, no_tariff-fault}}
+use Rattle.store_commands.proofs.ReadFaults.{no_memory-params, not_board-params, read_fault-params}
+use Rattle.store_commands.proofs.{SealedTariffs.{lines_of_sound, no_memory-text}, Turns.{first_alone, first_then}}
 use Rattle.store_commands.specs.declared.params.ParamsFault.TheVariants as params
 use Rattle.call_ends.specs.declared.tariff.TextFault.TheVariants as texts
 use Rattle.store_commands.proofs.seal.read_seal.Goals as goal
@@ -114,3 +116,36 @@ returns-clause-reads g c =
     c.in-Ok-read_parameters.is e))
     c.text_of_word.ensures.others (c.text_of_word.ensures.counts went)
     c.read_parameters.ensures.read_fault c.read_parameters.ensures.others c.read_parameters.ensures.counts
+
+-- ---- memory ran out
+
+pub returns-in-Err-clause-memory : goal.returns-in-Err-clause-memory
+returns-in-Err-clause-memory g c = λ tells e.
+    let none = no_memory-text c.in-Err.fault (sym c.refused_by.ensures ∙ same_fault _ _ _ refl e) in
+    let same = c.text_of_word.ensures.memory (c.in-Err.is ∙ ap Err none) in
+    record {
+      params = ap (λ files. g.F.Files.rest files 2) same;
+      tariff = inl (ap (λ files. g.F.Files.rest files 1) same);
+    }
+
+pub returns-in_err-decimals-clause-memory : goal.returns-in_err-decimals-clause-memory
+returns-in_err-decimals-clause-memory g c =
+    let p = err_from_is_err_and c.from_residual.result c.from_residual.ensures.1 in
+    rw (p.1, p.2) (λ tells e. record {
+      params = c.text_of_word.ensures.others 2 (λ is. absurd (omega (arith, is)));
+      tariff = inr (subst (λ (x : List ℕ). IsOfLines x) (c.as_slice.ensures.value ∙ c.in-Ok.ensures.text tells)
+          (c.decimals_of.ensures.memory (c.in_err-decimals.was ∙ ap Err (same_fault _ _ _ refl e))));
+    })
+
+pub returns-in-Err-read_parameters-clause-memory : goal.returns-in-Err-read_parameters-clause-memory
+returns-in-Err-read_parameters-clause-memory g c = λ tells e.
+    let none = no_memory-params c.in-Err-read_parameters.fault
+    (sym c.refused_params.ensures ∙ same_fault _ _ _ refl e) in
+    let same = c.read_parameters.ensures.memory (c.in-Err-read_parameters.is ∙ ap Err none) in
+    let has = c.in_ok-decimals.ensures.sound.has in
+    record {
+      params = ap (λ files. g.F.Files.rest files 2) same
+          ∙ c.text_of_word.ensures.others 2 (λ is. absurd (omega (arith, is)));
+      tariff = inr (subst (λ (x : List ℕ). IsOfLines x) (c.as_slice.ensures.value ∙ c.in-Ok.ensures.text tells)
+          (lines_of_sound c.as_slice.result.now has.tree has.sound));
+    }

@@ -76,7 +76,7 @@ returns-in-Err-clause-comes g c = λ read tells. record {
       seals-read g.B.Printer (rest 1) (rest 2)
       (c.open_store.result ≡ Err stores.BoardFault) c.args.board.now c.open_store.new.board _
       (λ z. not_0-store fault (ap status_of (sym c.refused_store.ensures) ∙ z))
-      (λ e. ap status_of (failed g c e))
+      (λ e. ap status_of (failed g c e)) c.open_store.ensures.reads.image
       (c.open_store.ensures.synced tells);
   rests = λ good. let rest = g.F.Files.rest c.args.files.now in
       let went : ¬ (c.open_store.result ≡ Err stores.BoardFault) = λ e. good (failed g c e) in
@@ -122,7 +122,7 @@ returns-in-Err-base_of-clause-comes g c = λ read tells. record {
       seals-read g.B.Printer (rest 1) (rest 2)
       (c.open_store.result ≡ Err stores.BoardFault) c.args.board.now c.open_store.new.board _
       (not_0-barred c.in-Err-base_of.ended (c.base_of.ensures.refused c.in-Err-base_of.ended c.in-Err-base_of.is))
-      (λ e. absurd (no_fault _ _ _ c.in-Ok.is e))
+      (λ e. absurd (no_fault _ _ _ c.in-Ok.is e)) c.open_store.ensures.reads.image
       (c.open_store.ensures.synced tells);
   rests = λ good. let rest = g.F.Files.rest c.args.files.now in
       let went : ¬ (c.open_store.result ≡ Err stores.BoardFault) = no_fault _ _ _ c.in-Ok.is in
@@ -189,7 +189,7 @@ returns-in-Err-read_seal-clause-comes g c = λ read tells. record {
       (not_0-no_seal _ c.in-Ok-base_of.base.decimals (rest 1) (rest 2)
       (λ word. Rose (faults c.args.files.now word) (faults c.read_seal.new.files word)) end
       (c.read_seal.ensures.refused end read c.in-Err-read_seal.is))
-      (λ e. absurd (no_fault _ _ _ c.in-Ok.is e))
+      (λ e. absurd (no_fault _ _ _ c.in-Ok.is e)) c.open_store.ensures.reads.image
       (c.open_store.ensures.synced tells);
   rests = λ good. let rest = g.F.Files.rest c.args.files.now in
       let went : ¬ (c.open_store.result ≡ Err stores.BoardFault) = no_fault _ _ _ c.in-Ok.is in
@@ -238,8 +238,9 @@ placed g c status read tells sealed =
     seals-over g.B.Printer _ _ _ _ _ _ _ _ c.args.board.now c.open_store.new.board c.place_seal.new.board status
     c.in-Ok.is (c.open_store.ensures.exact tells) c.in-Ok-base_of.is c.base_of.ensures.answer
     c.number_after-number.ensures.value (c.in-Ok-read_seal.ensures.read read) c.in-Ok-base_of.ensures.found
-    (c.in-Ok.ensures.opened tells).seal c.open_store.ensures.reads.text (c.open_store.ensures.synced tells)
-    (c.place_seal.ensures.any_moment tells) sealed
+    (c.in-Ok.ensures.opened tells).seal (c.open_store.ensures.same (no_fault _ _ _ c.in-Ok.is))
+    (c.open_store.ensures.settled tells (no_fault _ _ _ c.in-Ok.is)) c.place_seal.ensures.beside
+    c.open_store.ensures.reads.text (c.open_store.ensures.synced tells) (c.place_seal.ensures.any_moment tells) sealed
 
 pub returns-in-Ok-place_seal-clause-carries : goal.returns-in-Ok-place_seal-clause-carries
 returns-in-Ok-place_seal-clause-carries g c = record {
@@ -284,12 +285,18 @@ returns-in-Ok-place_seal-clause-comes g c = λ read tells. record {
             c.place_seal.ensures.beside,
       ));
   rests = λ good. let rest = g.F.Files.rest c.args.files.now in
+      let went : ¬ (c.open_store.result ≡ Err stores.BoardFault) = no_fault _ _ _ c.in-Ok.is in
       rests-placed g.B.Printer _ _ (g.B.Printer.image c.args.board.now) (g.B.Printer.printed c.args.board.now)
       (line_of (ended.Sealed c.number_after-number.result)) c.place_seal.new.board
       (sealing-made (g.B.Printer.image c.args.board.now) (rest 1) (rest 2) _ _ _ _ _ _ c.in-Ok.is
       (c.open_store.ensures.exact tells) c.in-Ok-base_of.is c.base_of.ensures.answer
       c.number_after-number.ensures.value (c.in-Ok-read_seal.ensures.read read))
-      (c.in-Ok-place_seal.ensures.sealed tells);
+      (c.in-Ok-place_seal.ensures.sealed tells)
+      (stays_beside g.B.Printer c.in-Ok-base_of.base.totals c.args.board.now c.open_store.new.board
+      c.place_seal.new.board (c.open_store.ensures.same went) (c.open_store.ensures.settled tells went)
+      c.place_seal.ensures.beside)
+      (settled-sealed g.B.Printer c.in-Ok-base_of.base.totals _ c.open_store.new.board c.place_seal.new.board
+      (c.open_store.ensures.settled tells went) c.place_seal.ensures.beside (c.in-Ok-place_seal.ensures.sealed tells));
 }
 
 pub returns-in-Err-place_seal-clause-carries : goal.returns-in-Err-place_seal-clause-carries

@@ -1,8 +1,8 @@
-use Rattle.std.{specs.Prelude.{IfOk}, proofs.Common.{ℕ, ◌∙◌, ◌≡◌, Err, List, Ok, ap, refl, subst, sym}}
+use Rattle.std.{specs.Prelude.{IfOk}, proofs.Common.{ℕ, ◌∙◌, ◌≡◌, Err, List, Ok, ap, inl, inr, refl, subst, sym}}
 use Rattle.call_ends.proofs.Laws.{not_board-text, read_fault-text, reads-bad, reads-ok, same_fault}
-use Rattle.store_commands.specs.{Common.{Ended, Rose, ended_for, tree_of}, SealedTariff.{sealed_tariff}}
-use Rattle.store_commands.specs.TariffSteps.{AreNoTables}
-use Rattle.store_commands.proofs.{SealedTariffs.{no_tables-as, no_tables-read}, WordsRead.{reads-behind, reads-err}}
+use Rattle.store_commands.specs.{Common.{Ended, Rose, ended_for, tree_of}, SealedTariff.{HasSealedLines, sealed_tariff}}
+use Rattle.store_commands.{specs.TariffSteps.{AreNoTables}, proofs.WordsRead.{reads-behind, reads-err}}
+use Rattle.store_commands.proofs.SealedTariffs.{no_memory-text, no_tables-as, no_tables-read}
 use Rattle.call_ends.specs.declared.ending.Ended.TheVariants as ended
 use Rattle.store_commands.proofs.sealed_tariff.read_sealed.Goals as goal
 
@@ -41,3 +41,14 @@ returns-clause-reads g c = let f = c.text_of_word.ensures in
     reads-behind (reads-ok f.read_fault f.others f.counts c.in-Ok.ensures.ended c.in-Ok.is) c.sealed_of_text.result
     (λ e. absurd (c.sealed_of_text.ensures.refused ended.ReadFault e))
     (λ e. absurd (c.sealed_of_text.ensures.refused ended.BoardFault e))
+
+-- memory ran out before anything was read, or for the lines of the sealed text
+pub returns-in-Err-clause-memory : goal.returns-in-Err-clause-memory
+returns-in-Err-clause-memory g c = λ tells e.
+    let none = no_memory-text c.in-Err.fault (sym c.refused_by.ensures ∙ same_fault _ _ _ refl e) in
+    inl (ap (λ files. g.F.Files.rest files 1) (c.text_of_word.ensures.memory (c.in-Err.is ∙ ap Err none)))
+
+pub returns-clause-memory : goal.returns-clause-memory
+returns-clause-memory g c = λ tells e.
+    inr (subst (λ (x : List ℕ). HasSealedLines c.args.digest.now x)
+    (c.as_slice.ensures.value ∙ c.in-Ok.ensures.text tells) (c.sealed_of_text.ensures.memory e))

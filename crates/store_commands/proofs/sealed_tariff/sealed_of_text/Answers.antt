@@ -35,3 +35,11 @@ returns-clause-refused c = λ why e.
     ap (pointwise nat_eq digest) (sym c.digest-own.ensures) ∙ sym c.is_sealed.ensures ∙ is in
     subst (λ (w : Ended). AreNoTables digest text ⊥ w) (same_fault _ _ _ refl e)
     (rw c.digest-own.ensures (tariff-wrong digest text c.requires other))
+
+pub returns-then-is_sealed-clause-memory : goal.returns-then-is_sealed-clause-memory
+returns-then-is_sealed-clause-memory c = λ e.
+    let is : c.is_sealed.result ≡ true = search in
+    record {
+      sealed = ap (pointwise nat_eq c.args.digest.now) (sym c.digest-own.ensures) ∙ sym c.is_sealed.ensures ∙ is;
+      lines = c.tariff_of.ensures.memory e;
+    }

@@ -1,0 +1,2 @@
+pub mod RunTrips
+pub mod Common
