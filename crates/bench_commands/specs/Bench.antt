@@ -2,11 +2,11 @@
 use Rattle.std.specs.Prelude.{[], ℕ, ◌++◌, ◌+◌, ◌≡◌, ◌≤◌, ◌⊎◌, Bool, Err, List, Ok, Result, Some, false, length, true}
 use Rattle.verify_bench.specs.{CrossOvers.{cross_overs_text}, PassedReports.{do_all_pass}, Report.{report_text}}
 use Rattle.verify_bench.specs.{ExpectedReceipts.{expected_of}, declared.expected.Expected.{Expected}}
-use Rattle.{call_ends.specs.{Course.{Command}, Pieces.{pieces_of}}, store_commands.specs.SealedTariff.{sealed_tariff}}
-use Rattle.store_commands.specs.{Opening.{IsSealedIn}, declared.opening.{Opening.{Opening}, StoreFault.{StoreFault}}}
-use Rattle.bench_commands.specs.Common.{Answer, BadAt, Drive, Durable, Ended, Endless, IsGoing, Reading, ReadingsFault}
-use Rattle.bench_commands.specs.Common.{Seal, Setting, StreamEnd, Tree, Whole, drive_end, events_of, opening_in}
-use Rattle.bench_commands.specs.Common.{readings_in, refused_as, setting_by, store_of}
+use Rattle.{call_ends.specs.Pieces.{pieces_of}, store_commands.specs.declared.opening.StoreFault.{StoreFault}}
+use Rattle.store_commands.specs.{Opening.{IsSealedIn}, SealedTariff.{sealed_tariff}, declared.opening.Opening.{Opening}}
+use Rattle.bench_commands.specs.Common.{Answer, BadAt, Command, Drive, Durable, Ended, Endless, IsGoing, Reading}
+use Rattle.bench_commands.specs.Common.{ReadingsFault, Seal, Setting, StreamEnd, Tree, Whole, drive_end, events_of}
+use Rattle.bench_commands.specs.Common.{opening_in, readings_in, refused_as, setting_by, store_of}
 use Rattle.verify_bench.specs.declared.reading.ReadingsFault.TheVariants as readings
 use Rattle.call_ends.specs.declared.ending.Ended.TheVariants as ended
 

@@ -1,61 +1,12 @@
 -- Rules: the command `explain TARIFF DRIVE PARAMS`.
-use Rattle.std.specs.Prelude.{[], ℕ, ◌≡◌, ◌⊎◌, Err, List, Ok, Result, Some}
-use Rattle.seal_record.specs.{Reading.{params_read}, declared.params.{ParamFault.{ParamFault}, Params.{Params}}}
-use Rattle.call_ends.specs.{Answer.{shows}, Course.{Command}, TextCommands.{text_command}}
-use Rattle.call_ends.specs.{Plan.{Last, Next}, Tariffs.{HasTariff, tariff_in}, declared.tariff.Refusal.{Refusal}}
-use Rattle.bench_commands.specs.Common.{Answer, BadAt, Drive, Ended, Endless, IsGoing, Setting, StreamEnd, Tree, Whole}
-use Rattle.bench_commands.specs.Common.{drive_end, events_of, explanations_of, refused_as, setting_by}
-use Rattle.bench_commands.specs.ExplainedText.{explanations_text}
-use Rattle.call_ends.specs.declared.ending.Ended.TheVariants as ended
+use Rattle.{std.specs.Prelude.{ℕ, List}, verify_bench.specs.TripExplanations.{explanations_of}}
+use Rattle.bench_commands.specs.{Common.{Command, Event, Setting}, ExplainedText.{explanations_text}}
+use Rattle.bench_commands.specs.DriveTexts.{drive_text_command}
 
--- ---- what an explanation goes by
+-- what is printed of events under a setting explains each hiring that they close on a new store
+abbrev pub explanation_text : Setting → List Event → List ℕ
+explanation_text s events = explanations_text s (explanations_of s events)
 
--- the setting of a tariff and of the parameters that were read, or the refusal of the parameters
-abbrev pub setting_from : Tree → Result Params ParamFault → Result Setting Ended
-setting_from t (Err fault) = Err (ended.BadParams fault)
-setting_from t (Ok params) = Ok (setting_by t params)
-
--- the setting of the tariff and the parameters that were read, or the first refusal: of the tariff, or of the
--- parameters
-abbrev pub setting_with : Result Tree Refusal → Result Params ParamFault → Result Setting Ended
-setting_with (Err why) params = Err (ended.BadTariff why)
-setting_with (Ok t) params = setting_from t params
-
--- the setting of two texts, or the refusal of the first that isn't accepted. `params_read` gives the parameters of a
--- text or its fault, as the law texts_say_their_parameters of seal_record says
-abbrev pub read_setting : (tariff params : List ℕ) → Result Setting Ended
-read_setting tariff params = setting_with (tariff_in tariff) (params_read params)
-
--- ---- the answer
-
--- what is printed of a drive under a setting explains each hiring that the drive closes on a new store
-abbrev pub explanation_text : Setting → (drive : List ℕ) → List ℕ
-explanation_text s drive = explanations_text s (explanations_of s (events_of drive))
-
--- the answer to a drive that has an end explains its hirings, and else refuses the drive
-abbrev pub ending_answer : Setting → (drive : List ℕ) → StreamEnd → Answer
-ending_answer s drive Whole = shows (explanation_text s drive)
-ending_answer s drive (BadAt line) = refused_as (ended.BadDrive line)
-ending_answer s drive Endless = refused_as ended.EndlessDrive
-
--- the answer under a setting is that of the drive, and else the refusal of the tariff or of the parameters
-abbrev pub explain_answer : Result Setting Ended → (drive : List ℕ) → Answer
-explain_answer (Err why) drive = refused_as why
-explain_answer (Ok s) drive = ending_answer s drive (drive_end drive)
-
--- ---- the command
-
--- two texts have a tariff and parameters
-pub record HasSetting (tariff params : List ℕ) : Type 0 where
-  pub setting : Setting
-  pub is : read_setting tariff params ≡ Ok setting
-
--- the command `explain` reads its tariff, its parameters and then its drive into memory, and prints at the end alone,
--- in a step for each piece and one for the last line
+-- the command `explain` prints the text that explains the hirings of its drive
 abbrev pub explain_command : Command
-explain_command = text_command
-    (Next 1 (λ contents image taken. taken ≡ [])
-    (Next 3 (λ contents image taken. (taken ≡ []) × HasTariff (contents 1))
-    (Last 2 (λ contents image taken. IsGoing taken × HasSetting (contents 1) (contents 3))))) (Some (Drive 2))
-    (λ contents taken. (taken ≡ []) ⊎ HasSetting (contents 1) (contents 3))
-    (λ contents. explain_answer (read_setting (contents 1) (contents 3)) (contents 2))
+explain_command = drive_text_command explanation_text

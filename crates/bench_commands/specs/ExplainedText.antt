@@ -7,7 +7,7 @@ use Rattle.receipt_text.specs.Receipts.{calculation_text, course_text, fare_text
 use Rattle.verify_bench.specs.{TripExplanations.{Explanation}, declared.explained.{Group.{Group}, Taken.{Taken}}}
 use Rattle.verify_bench.specs.declared.explained.{Sums.{Sums}, Way.{Way}}
 use Rattle.verify_bench.specs.declared.{explained.Way.TheVariants.{Both, Distance, Time}, fees.HiringFees.{HiringFees}}
-use Rattle.bench_commands.specs.Common.{Scale, Setting, money_text}
+use Rattle.bench_commands.specs.{Common.{Setting, money_text}, declared.explained_lines.Scale.{Scale}}
 
 -- a setting is written by the decimals of its tariff, by its constant, and by the units of charge in the smallest unit
 -- of money
@@ -125,11 +125,11 @@ hiring_text scale number e =
     ++ (flat_map (taken_text scale.decimals) e.taken
     ++ (supplements_text (scaled_receipt scale e) ++ total_text (scaled_receipt scale e))))))
 
--- hirings are explained one after the other, the first with a number and each further one with the next
-unfoldable pub hirings_text : Scale → (number : ℕ) → List Explanation → List ℕ
-hirings_text scale number [] = []
-hirings_text scale number (e ∷ es) = hiring_text scale number e ++ hirings_text scale (number + 1) es
+-- texts stand one behind the other, the first with a number and each further one with the next
+unfoldable pub numbered_texts : {A : Type 0} → (text : (number : ℕ) → A → List ℕ) → (number : ℕ) → List A → List ℕ
+numbered_texts text number [] = []
+numbered_texts text number (x ∷ xs) = text number x ++ numbered_texts text (number + 1) xs
 
 -- the hirings of a drive are explained under its setting, and numbered from 1
 abbrev pub explanations_text : Setting → List Explanation → List ℕ
-explanations_text s es = hirings_text (scale_of s) 1 es
+explanations_text s es = numbered_texts (hiring_text (scale_of s)) 1 es

@@ -1,19 +1,14 @@
 //! The command `explain`.
-ghost use Rattle.std.specs.Prelude.{ℕ, ◌≡◌, All, IfOk, List, flat_map};
-ghost use Rattle.{verify_bench.specs.Settings.{setting_under}, call_ends.specs.Making.{end_made, text_made}};
-ghost use Rattle.bench_commands.specs.Common.{Carries, IsRunInRange, Makes, explanations_of, run_events};
-ghost use Rattle.bench_commands.specs.{Explain.{explain_command}, ExplainedText.{explanations_text}};
+ghost use Rattle.std.specs.Prelude.{ℕ, ◌≡◌, All, IfOk, List};
+ghost use Rattle.bench_commands.specs.Common.{Carries, IsRunInRange, Makes, end_made, text_made};
+ghost use Rattle.bench_commands.specs.{Explain.{explain_command, explanation_text}, ExplainSteps.{text_of_inputs}};
 
 use crate::explained_text::text_of_explained;
-use crate::whole_drive::read_drive;
-use call_ends::{Ended, Made, print_made, read_tariff, refused_by};
-use drive_text::Run;
+use crate::inputs::{Inputs, read_inputs};
+use call_ends::{Ended, Made, print_made};
 use outside::{Files, Printer, STORE_SIZE};
-use seal_record::Params;
 use std::alloc::Global;
 use std::sync::ledger::Ledger;
-use store_commands::{read_parameters, refused_params};
-use tariff_check::Checked;
 use taxi_units::{NoMemory, Steps};
 use verify_bench::explain as explain_runs;
 
@@ -36,16 +31,11 @@ fn explanation<F: Files>(alloc: Global, files: &mut F) -> Result<Made, Ended>
     ensures { (image : List ℕ) → Makes F.Files explain_command image files.old files.new
         (text_made result) (end_made result) }
 {
-    let checked = match read_tariff(alloc, files, 1) {
-        Ok(checked) => checked,
-        Err(fault) => return Err(refused_by(fault)),
+    let inputs = match read_inputs(alloc, files) {
+        Ok(inputs) => inputs,
+        Err(why) => return Err(why),
     };
-    let params = match read_parameters(alloc, files, 3) {
-        Ok(params) => params,
-        Err(fault) => return Err(refused_params(fault)),
-    };
-    let runs = read_drive(alloc, files, 2)?;
-    match text_of_runs(alloc, &checked, &params, runs.as_slice()) {
+    match explained_by(alloc, &inputs) {
         Ok(text) => Ok(Made {
             text,
             ended: Ended::Done,
@@ -54,17 +44,16 @@ fn explanation<F: Files>(alloc: Global, files: &mut F) -> Result<Made, Ended>
     }
 }
 
-/// The text by which the hirings of the runs of a drive are explained.
-fn text_of_runs(
-    alloc: Global,
-    checked: &Checked,
-    params: &Params,
-    runs: &[Run],
-) -> Result<Vec<u8>, NoMemory>
-    requires { All IsRunInRange runs.now }
-    ensures { IfOk result (λ text. text.items ≡ explanations_text (setting_under checked.now params.now)
-        (explanations_of (setting_under checked.now params.now) (flat_map run_events runs.now))) }
+/// The text by which the hirings of a drive are explained.
+fn explained_by(alloc: Global, inputs: &Inputs) -> Result<Vec<u8>, NoMemory>
+    requires { All IsRunInRange inputs.now.runs.items }
+    ensures { IfOk result (λ text. text.items ≡ text_of_inputs explanation_text inputs.now) }
 {
-    let explained = explain_runs(alloc, checked, params, runs)?;
-    text_of_explained(alloc, checked, params, explained.as_slice())
+    let explained = explain_runs(
+        alloc,
+        &inputs.checked,
+        &inputs.params,
+        inputs.runs.as_slice(),
+    )?;
+    text_of_explained(alloc, &inputs.checked, &inputs.params, explained.as_slice())
 }

@@ -153,6 +153,15 @@ fn push_title(line: &mut Line, number: u64, kind: Kind)
     push_bytes(line, b"\n");
 }
 
+/// The line of a hiring's number and of how it ended.
+pub fn title_line(number: u64, kind: Kind) -> Line
+    ensures { result.items ≡ title_text number kind }
+{
+    let mut line = Line::new();
+    push_title(&mut line, number, kind);
+    line
+}
+
 /// The lines of a hiring's title and of the course of the trip, with its time.
 #[tactic(auto, unfolding(crate::specs::ExplainedText::explained_heading))]
 pub fn heading_lines(number: u64, receipt: &Receipt, ticks: u32) -> Line

@@ -1,9 +1,9 @@
 //! The text by which hirings are explained.
 ghost use Rattle.std.specs.Prelude.{◌++◌, ◌≡◌, ◌≤◌, IfOk, OnOk, flat_map, map};
 ghost use Rattle.receipt_text.specs.Receipts.{supplements_text, total_text};
-ghost use Rattle.{verify_bench.specs.Settings.{setting_under}, bench_commands.specs.ExplainedText.{taken_text}};
-ghost use Rattle.bench_commands.specs.{Common.{explanation_of}, ExplainSteps.{IsScale}};
-ghost use Rattle.bench_commands.specs.ExplainedText.{explanations_text, hiring_text, hirings_text, rate_text, scale_of};
+ghost use Rattle.{verify_bench.specs.Settings.{setting_under}, bench_commands.specs.ExplainSteps.{IsScale}};
+ghost use Rattle.bench_commands.specs.{Common.{explanation_of}, ExplainedText.{scale_of, taken_text}};
+ghost use Rattle.bench_commands.specs.ExplainedText.{explanations_text, hiring_text, numbered_texts, rate_text};
 
 use crate::explained_lines::{Scale, fee_lines, heading_lines, rate_line, sum_lines, taken_line};
 use receipt_text::{push_supplements, push_total};
@@ -46,7 +46,7 @@ fn scale_by(checked: &Checked, params: &Params) -> Scale
 fn push_hirings(text: &mut Vec<u8>, scale: &Scale, explained: &[Explained]) -> Result<(), NoMemory>
     requires { IsScale scale.now }
     ensures { OnOk result (text.new.items
-        ≡ text.old.items ++ hirings_text scale.now 1 (map explanation_of explained.now)) }
+        ≡ text.old.items ++ numbered_texts (hiring_text scale.now) 1 (map explanation_of explained.now)) }
 {
     let mut number = 0u64;
     for hiring in explained {
@@ -86,7 +86,7 @@ fn push_hiring(
 }
 
 /// Appends a line.
-fn push_line(text: &mut Vec<u8>, line: Line) -> Result<(), NoMemory>
+pub fn push_line(text: &mut Vec<u8>, line: Line) -> Result<(), NoMemory>
     ensures { OnOk result (text.new.items ≡ text.old.items ++ line.items) }
 {
     text.extend_from_slice(line.as_slice())

@@ -5,9 +5,9 @@ use Rattle.tariff_commands.specs.{Compare.{compare_command}, Faults.{faults_comm
 use Rattle.store_commands.specs.{Mark.{mark_command}, Port.{port_command}, Seal.{seal_command}, Totals.{totals_command}}
 use Rattle.store_commands.specs.{Offsets.{offsets_command}, Sealed.{sealed_command}, Shifts.{shifts_command}}
 use Rattle.{rate_commands.specs.Rates.{rates_command}, bench_commands.specs.Explain.{explain_command}}
-use Rattle.{bench_commands.specs.Bench.{bench_command}, drive_commands.specs.Generate.{gen_command}}
-use Rattle.{drive_commands.specs.{Fare.{fare_command}, Run.{run_command}}, commands.specs.Common.{Command}}
-use Rattle.commands.specs.{NoCommand.{no_command}, declared.words.Row.{Row, TheVariants.{Tables, Totals}}}
+use Rattle.{bench_commands.specs.{Bench.{bench_command}, Story.{story_command}}, drive_commands.specs.Run.{run_command}}
+use Rattle.{drive_commands.specs.{Fare.{fare_command}, Generate.{gen_command}}, commands.specs.Common.{Command}}
+use Rattle.commands.specs.{NoCommand.{no_command}, declared.words.Row.{Row, TheVariants.{Story, Tables, Totals}}}
 use Rattle.commands.specs.Words.{row_of}
 use Rattle.commands.specs.declared.words.Row.TheVariants.{Bench, Check, Compare, Explain, Fare, Faults, Form, Gen}
 use Rattle.commands.specs.declared.words.Row.TheVariants.{Lines, Mark, Offsets, Port, Rates, Run, Seal, Sealed, Shifts}
@@ -32,6 +32,7 @@ command_of (Some Form) = form_command
 command_of (Some (Lines k)) = lines_command k
 command_of (Some (Rates k)) = rates_command k
 command_of (Some Explain) = explain_command
+command_of (Some Story) = story_command
 command_of (Some (Compare k)) = compare_command k
 command_of (Some Faults) = faults_command
 

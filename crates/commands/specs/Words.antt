@@ -3,7 +3,7 @@ use Rattle.std.specs.{Option.{option_map}, Prelude.{nat_le, nat_lt}, Str.Parse.{
 use Rattle.std.specs.Prelude.{[], ℕ, ◌&&◌, ◌==◌, ◌^◌, ◌∷◌, List, None, Option, Some, codes, if◌then◌else◌, length}
 use Rattle.{taxi_units.specs.{Number.{figure_in}, Words.{is_word}}, store_commands.specs.Years.{years_of}}
 use Rattle.{drive_modes.specs.Constant.{greatest_constant, least_constant}, shift_book.specs.Reading.{driver_of}}
-use Rattle.commands.specs.{Common.{digits_at_front}, declared.words.Row.{Row, TheVariants.{Tables, Totals}}}
+use Rattle.commands.specs.{Common.{digits_at_front}, declared.words.Row.{Row, TheVariants.{Story, Tables, Totals}}}
 use Rattle.commands.specs.declared.words.Row.TheVariants.{Bench, Check, Compare, Explain, Fare, Faults, Form, Gen}
 use Rattle.commands.specs.declared.words.Row.TheVariants.{Lines, Mark, Offsets, Port, Rates, Run, Seal, Sealed, Shifts}
 
@@ -66,14 +66,15 @@ three_words command middle last =
     else (if is_word command (codes "rates") then option_map Rates (constant_of last) else None))))))
 
 -- the row of four words is `fare TARIFF DRIVE CONSTANT`, `bench TARIFF DRIVE READINGS`, `explain TARIFF DRIVE PARAMS`,
--- `offsets RULES FROM TO` or `compare TARIFF OTHER CONSTANT`
+-- `story TARIFF DRIVE PARAMS`, `offsets RULES FROM TO` or `compare TARIFF OTHER CONSTANT`
 abbrev pub four_words : (command third last : List ℕ) → Option Row
 four_words command third last =
     if is_word command (codes "fare") then option_map Fare (constant_of last)
     else (if is_word command (codes "bench") then Some Bench
     else (if is_word command (codes "explain") then Some Explain
+    else (if is_word command (codes "story") then Some Story
     else (if is_word command (codes "offsets") then option_map Offsets (years_of third last)
-    else (if is_word command (codes "compare") then option_map Compare (constant_of last) else None))))
+    else (if is_word command (codes "compare") then option_map Compare (constant_of last) else None)))))
 
 -- words are the row of the command that they call, and no row if they are no command
 abbrev pub row_of : List (List ℕ) → Option Row

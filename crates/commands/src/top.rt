@@ -11,6 +11,7 @@ ghost use Rattle.commands.specs.{Command.{IsReadOnlyRow}, Common.{IsAtRest, IsCa
 use crate::words::{Row, row_in};
 use bench_commands::bench::bench;
 use bench_commands::explain::explain;
+use bench_commands::story::tell_stories;
 use call_ends::{Ended, finish};
 use drive_commands::fare::fare;
 use drive_commands::generate::generate;
@@ -62,6 +63,7 @@ fn carry_out<F: Files, B: Board<STORE_SIZE, L>, L: Ledger>(
         Row::Lines(k) => print_lines(alloc, k, files, board, steps),
         Row::Rates(k) => print_rates(alloc, k, files, board, steps),
         Row::Explain => explain(alloc, files, board, steps),
+        Row::Story => tell_stories(alloc, files, board, steps),
         Row::Compare(k) => print_comparison(alloc, k, files, board, steps),
         Row::Faults => print_faults(alloc, files, board, steps),
     }
@@ -97,6 +99,7 @@ fn carry_out<F: Files, B: Board<STORE_SIZE, L>, L: Ledger>(
 ///   mode S can charge an even speed too much; then the nearest constants under which that is at most 10 percent
 /// - `explain TARIFF DRIVE PARAMS`: why the fare of each hiring that the drive closes is what it is, on a new store
 ///   that is sealed with the tariff and the parameters
+/// - `story TARIFF DRIVE PARAMS`: what happened in each hiring that the drive closes, moment by moment, on such a store
 /// - `compare TARIFF OTHER CONSTANT`: what differs first between two tariffs, and the line of each, or `SAME`
 ///
 /// The statuses, their last lines, and when they come. A command looks at its words, at the store and at its
@@ -110,8 +113,9 @@ fn carry_out<F: Files, B: Board<STORE_SIZE, L>, L: Ledger>(
 ///   bytes, its line n is the first that is no line of a tariff, or, but for `form`, this is its first fault; with
 ///   `faults` such a line for each line that is none of a tariff, or else for each fault;
 ///   `BAD OTHER` with the same, for `compare`: exactly if the other tariff isn't accepted for this
-/// - 3, `BAD DRIVE n` or `BAD DRIVE TOO LONG`, for `fare`, `run`, `bench` and `explain`: exactly if line n is the
-///   first that is no line of a drive, or if 2^40 bytes were taken, none of their lines is bad, and the end wasn't told
+/// - 3, `BAD DRIVE n` or `BAD DRIVE TOO LONG`, for `fare`, `run`, `bench`, `explain` and `story`: exactly if line n
+///   is the first that is no line of a drive, or if 2^40 bytes were taken, none of their lines is bad, and the end
+///   wasn't told
 /// - 4, `NOT SEALED`, for `totals`, `run`, `bench`, `port`, `mark`, `shifts` and `sealed`: exactly if the store's
 ///   pair of totals or of seals is blank
 /// - 5, `BAD STORE s`, `BAD STORE s t` or `BAD STORE TRIP`, for a command that opens the store: exactly if slot
@@ -121,13 +125,13 @@ fn carry_out<F: Files, B: Board<STORE_SIZE, L>, L: Ledger>(
 ///   y, differ
 /// - 7, `READ FAULT`: only if the count of faults of a file that the command reads rose by one
 /// - 8, no line: exactly if the board's count of faults rose, by one
-/// - 9, `BAD PARAMS` with the fault, for `seal` and `explain`: exactly if the parameters have this first fault
+/// - 9, `BAD PARAMS` with the fault, for `seal`, `explain` and `story`: exactly if the parameters have this first fault
 /// - 10, `BAD READINGS n` or `BAD READINGS TOO LONG`, for `bench`: exactly if row n is the first that is no row
 ///   of readings, or the readings have more than 1,048,576 bytes
 /// - 11, no line: exactly if a row of the report of `bench` doesn't pass, or the tariffs of `compare` differ; the
 ///   output is whole, and each file was read to its end
 /// - 12, `NO MEMORY`: never for `totals`, `port`, `mark`, `offsets`, `sealed` and refused words; else free, before
-///   anything is printed or written and, but for `bench` and `explain`, before the first byte of the drive is taken
+///   anything is printed or written and, but for `bench`, `explain` and `story`, before the first byte of the drive is taken
 /// - 13, `TRIP HELD`, for `seal`: exactly if the totals of the store hold a trip
 /// - 14, `SEAL ENDED`, for `seal`: exactly if the found seal has the last number, 10^15
 /// - 15, `OTHER DECIMALS x y`, for `seal`: exactly if the found seal has x decimals, and the tariff y, which is

@@ -79,6 +79,8 @@ pub enum Row {
     Rates(Constant),
     /// `explain TARIFF DRIVE PARAMS`
     Explain,
+    /// `story TARIFF DRIVE PARAMS`
+    Story,
     /// `compare TARIFF OTHER CONSTANT`
     Compare(Constant),
 }
@@ -215,6 +217,8 @@ fn four_words(command: &[u8], third: &[u8], last: &[u8]) -> Option<Row>
         Some(Row::Bench)
     } else if is_word(command, b"explain") {
         Some(Row::Explain)
+    } else if is_word(command, b"story") {
+        Some(Row::Story)
     } else if is_word(command, b"offsets") {
         Some(Row::Offsets(Years::of(third, last)?))
     } else if is_word(command, b"compare") {

@@ -10,13 +10,14 @@ use Rattle.{tariff_tree.specs.Tree.{Tree}, tariff_syntax.specs.Parsed.{tree_pars
 use Rattle.{meter_model.specs.Setting.{setting_by}, verify_bench.proofs.Laws.{explanations_have_the_receipts-receipts}}
 use Rattle.{verify_bench.specs.TripExplanations.{explanations_of}, call_ends.specs.Answer.{Answer, shows}}
 use Rattle.call_ends.specs.{Tariffs.{checked_in, tariff_in}, declared.tariff.Refusal.{Refusal, TheVariants.{TooLong}}}
-use Rattle.{store_commands.specs.Opening.{opening_by}, drive_commands.specs.Run.{start_with}}
+use Rattle.{store_commands.specs.Opening.{opening_by}, bench_commands.specs.Explain.{explanation_text}}
 use Rattle.store_commands.specs.{SealedTariff.{accepted, sealed_tariff}, declared.opening.StoreFault.{StoreFault}}
 use Rattle.store_commands.{specs.declared.opening.Opening.{Opening}, proofs.Laws.{seal_of_texts}}
-use Rattle.bench_commands.specs.Explain.{ending_answer, explain_answer, explanation_text, read_setting, setting_with}
+use Rattle.bench_commands.specs.DriveTexts.{read_setting, setting_with, text_answer, whole_answer}
+use Rattle.{drive_commands.specs.Run.{start_with}, run_chains.specs.Common.{texts}}
 use Rattle.run_chains.specs.Common.{Durable, Ended, Found, HasSeal, Seal, Setting, SlotFault, Start, deeds_in, deeds_of}
 use Rattle.run_chains.specs.Common.{drive_answer, drive_end, events_of, found_at, opening_in, run_answer, start_of}
-use Rattle.run_chains.specs.{Common.{texts}, NewStore.{ExplainsRun, IsNewStore}}
+use Rattle.run_chains.specs.NewStore.{ExplainsRun, IsNewStore}
 use Rattle.meter_store.specs.Stored as states
 use Rattle.seal_record.specs.Decoding as seals
 use Rattle.totals_record.specs.Reading as totals
@@ -87,7 +88,7 @@ new_store_explained tariff params drive image new ends =
       acts_are = refl;
       goes_by = goes_by;
       runs = ap (λ (r : Result Start Ended). run_answer r drive) starts ∙ ap (drive_answer shown) whole;
-      explains = ap (λ (r : Result Setting Ended). explain_answer r drive) goes_by
-          ∙ ap (ending_answer setting drive) whole;
+      explains = ap (λ (r : Result Setting Ended). text_answer explanation_text r drive) goes_by
+          ∙ ap (whole_answer explanation_text setting drive) whole;
       receipts = explanations_have_the_receipts-receipts setting (events_of drive);
     }

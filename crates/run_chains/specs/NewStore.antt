@@ -3,7 +3,7 @@ use Rattle.std.specs.Prelude.{ℕ, ◌≡◌, List, None, Ok, map}
 use Rattle.{meter_store.specs.Sealing.{IsSealed, Sealing}, meter_model.specs.Run.{actions_of}}
 use Rattle.verify_bench.specs.{Receipts.{receipts_in}, TripExplanations.{Explanation, explanations_of}}
 use Rattle.{call_ends.specs.Answer.{shows}, store_commands.specs.Seal.{sealing_of}}
-use Rattle.bench_commands.specs.{Explain.{explain_answer, read_setting}, ExplainedText.{explanations_text}}
+use Rattle.bench_commands.specs.{DriveTexts.{read_setting, text_answer}, Explain.{explanation_text}}
 use Rattle.run_chains.specs.Common.{Act, Setting, Start, deeds_of, events_of, opening_in, run_answer, setting_in}
 use Rattle.run_chains.specs.Common.{start_of, texts}
 
@@ -26,6 +26,6 @@ pub record ExplainsRun (tariff params drive image : List ℕ) : Type 0 where
   pub acts_are : acts ≡ actions_of (setting_in start) start.durable (events_of drive)
   pub goes_by : read_setting tariff params ≡ Ok setting
   pub runs : run_answer (start_of (opening_in image) tariff) drive ≡ shows (texts start.seal (deeds_of acts))
-  pub explains : explain_answer (read_setting tariff params) drive
-      ≡ shows (explanations_text setting (explanations_of setting (events_of drive)))
+  pub explains : text_answer explanation_text (read_setting tariff params) drive
+      ≡ shows (explanation_text setting (events_of drive))
   pub receipts : map (λ (e : Explanation). e.receipt) (explanations_of setting (events_of drive)) ≡ receipts_in acts

@@ -24,7 +24,8 @@ fn taxi_status_2() -> Topic {
         names: "2|BAD TARIFF|BAD OTHER",
         text: "status 2, printed last: BAD TARIFF .., BAD OTHER ..\nwhat to do: mend the first tariff, or the \
 second; taxi help FAULT and docs/TARIFF.md say what the fault is\ncommands: check, faults, form, \
-tables, lines, rates, compare, fare, seal, run, bench, explain\nmore: docs/use/COMMANDS.md\n",
+tables, lines, rates, compare, fare, seal, run, bench, explain, story\nmore: \
+docs/use/COMMANDS.md\n",
     }
 }
 
@@ -33,8 +34,8 @@ fn taxi_status_3() -> Topic {
     Topic {
         names: "3|BAD DRIVE",
         text: "status 3, printed last: BAD DRIVE ..\nwhat to do: mend the line. run has carried out what stands \
-before it, so give it only the rest, with a U before it\ncommands: fare, run, bench, explain\n\
-more: docs/use/COMMANDS.md\n",
+before it, so give it only the rest, with a U before it\ncommands: fare, run, bench, explain, \
+story\nmore: docs/use/COMMANDS.md\n",
     }
 }
 
@@ -91,7 +92,7 @@ fn taxi_status_9() -> Topic {
     Topic {
         names: "9|BAD PARAMS",
         text: "status 9, printed last: BAD PARAMS ..\nwhat to do: mend the line, or add the key that is missing \
-(docs/FORMATS.md)\ncommands: seal, explain\nmore: docs/use/COMMANDS.md\n",
+(docs/FORMATS.md)\ncommands: seal, explain, story\nmore: docs/use/COMMANDS.md\n",
     }
 }
 

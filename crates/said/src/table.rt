@@ -75,6 +75,12 @@ pub const TAXI: Program = Program {
             example: "explain examples/city.tariff examples/morning.drive examples/taxi.params",
         },
         Command {
+            words: &["story", "TARIFF", "DRIVE", "PARAMS"],
+            does: "tells what happened in each hiring, moment by moment, without a store",
+            purpose: "see fares without a store",
+            example: "story examples/city.tariff examples/morning.drive examples/taxi.params",
+        },
+        Command {
             words: &["gen", "SEED", "N"],
             does: "makes a large drive of N trips and prints what it comes to",
             purpose: "see fares without a store",

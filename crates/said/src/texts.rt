@@ -160,6 +160,16 @@ sealed\nprinted. A trip that is still held isn't explained.\n",
 /// A command of the taximeter, told further.
 fn command_12() -> Topic {
     Topic {
+        names: "story",
+        text: "Tells what happened in each hiring that a drive closes: which line charged from when, stops, \
+keys,\nrefusals, displays, losses of supply, and a clock that was moved in the trip. The files \
+are those of\nexplain.\n",
+    }
+}
+
+/// A command of the taximeter, told further.
+fn command_13() -> Topic {
+    Topic {
         names: "totals",
         text: "Prints the totals of the store, whether it holds a trip, its layout, and the shares of each \
 tariff\nposition.\n",
@@ -167,7 +177,7 @@ tariff\nposition.\n",
 }
 
 /// A command of the taximeter, told further.
-fn command_13() -> Topic {
+fn command_14() -> Topic {
     Topic {
         names: "sealed",
         text: "Prints what the store was sealed with, as a text of parameters with which another meter can be\n\
@@ -192,6 +202,7 @@ pub(crate) fn command(place: usize) -> Option<Topic> {
         11 => Some(command_11()),
         12 => Some(command_12()),
         13 => Some(command_13()),
+        14 => Some(command_14()),
         _ => None,
     }
 }

@@ -380,6 +380,13 @@ const EXPLAINED: &str =
      STOPPED 0.000 m 0.1 s\nCHARGED 0.401587 59404400000 / 1479240000\nCALC 3.80 + 1 x 0.20\nFARE 4.00\n\
      SUPPLEMENTS 0.00\nTOTAL 4.00\nEND\n";
 
+/// What happened in it: the display shows 4.00 an interval behind the 50.4 s that the cover takes.
+const TOLD: &str =
+    "HIRING 1 CLOSED\n0 0 2026-01-01 01:00:00 HIRED T1 Z1 FEE 3\n0 0 2026-01-01 01:00:00 SHOWN 3.80 +0.00\n\
+     0 0 2026-01-01 01:00:00 RATE 4\n505 0 2026-01-01 01:00:00 SHOWN 4.00 +0.00\n\
+     506 0 2026-01-01 01:00:00 STOPPED\n506 0 2026-01-01 01:00:00 SHOWN 4.00 +0.00\n\
+     507 0 2026-01-01 01:00:00 CLOSED 4.00 +0.00\nEND\n";
+
 /// What `gen 7 1` prints, by a program of its own in another language.
 const GENERATED: &str =
     "GEN 7 1\nEVENTS 4662\nNUMBER 2\nDISTANCE 2129.500 m\nHIRED 1751.500 m\nHIRINGS 1\nSUPPLEMENTS 5.00\n\
@@ -426,6 +433,13 @@ const WITHOUT_STORE: &[Call] = &[
         &[A, FIRST_CLEARED, P],
         6,
         &[EXPLAINED],
+        0,
+    ),
+    (
+        &["story", "t", "d", "p"],
+        &[A, FIRST_CLEARED, P],
+        6,
+        &[TOLD],
         0,
     ),
     (&["gen", "7", "1"], &[], 0, &[GENERATED], 0),

@@ -1,5 +1,5 @@
 use Rattle.std.proofs.Common.{ℕ, ◌++◌, ◌∙◌, List, ap, arith, flat_map}
-use Rattle.bench_commands.{specs.ExplainedText.{rate_text}, proofs.ExplainedHirings.{line_more, lines_all}}
+use Rattle.bench_commands.{specs.ExplainedText.{rate_text}, proofs.TextsInTurn.{line_more, lines_all}}
 use Rattle.bench_commands.proofs.explained_text.push_rates.Goals as goal
 
 pub loop-group-preserved : goal.loop-group-preserved

@@ -1,5 +1,5 @@
 use Rattle.std.proofs.Common.{ℕ, ◌++◌, ◌∙◌, List, ap, arith, flat_map}
-use Rattle.bench_commands.{specs.ExplainedText.{taken_text}, proofs.ExplainedHirings.{line_more, lines_all}}
+use Rattle.bench_commands.{specs.ExplainedText.{taken_text}, proofs.TextsInTurn.{line_more, lines_all}}
 use Rattle.bench_commands.proofs.explained_text.push_taken.Goals as goal
 
 pub loop-supplement-preserved : goal.loop-supplement-preserved

@@ -45,6 +45,9 @@ returns-in-Rates g c = rw c.in-Rates.is (record { carries = c.print_rates.ensure
 pub returns-in-Explain : goal.returns-in-Explain
 returns-in-Explain g c = rw c.in-Explain.is (record { carries = c.explain.ensures; comes = tt })
 
+pub returns-in-Story : goal.returns-in-Story
+returns-in-Story g c = rw c.in-Story.is (record { carries = c.tell_stories.ensures; comes = tt })
+
 pub returns-in-Compare : goal.returns-in-Compare
 returns-in-Compare g c = rw c.in-Compare.is (record { carries = c.print_comparison.ensures; comes = tt })
 

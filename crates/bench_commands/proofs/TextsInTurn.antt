@@ -1,8 +1,7 @@
--- The text of hirings, line by line and hiring by hiring.
+-- Texts line by line, and numbered texts one after the other.
 use Rattle.std.proofs.Common.{[], ℕ, ◌++◌, ◌+◌, ◌<◌, ◌∙◌, ◌∷◌, ◌≡◌, List, ap, append_assoc, arith, drop, drop-cons}
 use Rattle.std.proofs.{Common.{flat_map, get_or, length, map, subst, suc, sym}, lemmas.List.{append-nil}}
-use Rattle.{std.proofs.Math.Seq.{drop-length}, verify_bench.specs.TripExplanations.{Explanation}}
-use Rattle.bench_commands.specs.{Common.{Scale}, ExplainedText.{hiring_text, hirings_text}}
+use Rattle.{std.proofs.Math.Seq.{drop-length}, bench_commands.specs.ExplainedText.{numbered_texts}}
 
 -- an element, and those behind it
 here : {A : Type 0} (xs : List A) (i : ℕ) (d : A) → i < length xs → drop i xs ≡ get_or xs i d ∷ drop (i + 1) xs
@@ -26,23 +25,23 @@ module _ {A : Type 0} (line : A → List ℕ) (xs : List A) (all : List ℕ) whe
   lines_all i text is so_far =
       sym (append-nil text) ∙ subst (λ (ys : List A). text ++ flat_map line ys ≡ all) (none_left xs i is) so_far
 
--- a hiring more, and no hiring more
-module _ {A : Type 0} (scale : Scale) (explanation : A → Explanation) (xs : List A) (all : List ℕ) where
-  pub hiring_more : (i number : ℕ) (d : A) (text next : List ℕ) → i < length xs
-      → text ++ hirings_text scale (number + 1) (map explanation (drop i xs)) ≡ all
-      → next ≡ text ++ hiring_text scale (number + 1) (explanation (get_or xs i d))
-      → next ++ hirings_text scale (number + 1 + 1) (map explanation (drop (i + 1) xs)) ≡ all
-  unfolding hirings_text
-  hiring_more i number d text next within so_far is =
-      ap (λ (t : List ℕ). t ++ hirings_text scale (number + 1 + 1) (map explanation (drop (i + 1) xs))) is
-      ∙ append_assoc text (hiring_text scale (number + 1) (explanation (get_or xs i d)))
-      (hirings_text scale (number + 1 + 1) (map explanation (drop (i + 1) xs)))
-      ∙ subst (λ (ys : List A). text ++ hirings_text scale (number + 1) (map explanation ys) ≡ all)
+-- a numbered text more, and no more
+module _ {A B : Type 0} (line : (number : ℕ) → B → List ℕ) (view : A → B) (xs : List A) (all : List ℕ) where
+  pub numbered_more : (i number : ℕ) (d : A) (text next : List ℕ) → i < length xs
+      → text ++ numbered_texts line (number + 1) (map view (drop i xs)) ≡ all
+      → next ≡ text ++ line (number + 1) (view (get_or xs i d))
+      → next ++ numbered_texts line (number + 1 + 1) (map view (drop (i + 1) xs)) ≡ all
+  unfolding numbered_texts
+  numbered_more i number d text next within so_far is =
+      ap (λ (t : List ℕ). t ++ numbered_texts line (number + 1 + 1) (map view (drop (i + 1) xs))) is
+      ∙ append_assoc text (line (number + 1) (view (get_or xs i d)))
+      (numbered_texts line (number + 1 + 1) (map view (drop (i + 1) xs)))
+      ∙ subst (λ (ys : List A). text ++ numbered_texts line (number + 1) (map view ys) ≡ all)
       (here xs i d within) so_far
 
-  pub hirings_all : (i number : ℕ) (text : List ℕ) → i ≡ length xs
-      → text ++ hirings_text scale number (map explanation (drop i xs)) ≡ all → text ≡ all
-  unfolding hirings_text
-  hirings_all i number text is so_far =
+  pub numbered_all : (i number : ℕ) (text : List ℕ) → i ≡ length xs
+      → text ++ numbered_texts line number (map view (drop i xs)) ≡ all → text ≡ all
+  unfolding numbered_texts
+  numbered_all i number text is so_far =
       sym (append-nil text)
-      ∙ subst (λ (ys : List A). text ++ hirings_text scale number (map explanation ys) ≡ all) (none_left xs i is) so_far
+      ∙ subst (λ (ys : List A). text ++ numbered_texts line number (map view ys) ≡ all) (none_left xs i is) so_far

@@ -1,0 +1,3 @@
+-- Rules: what the stories of a drive are of
+pub mod Closings
+pub mod ClosedStories
