@@ -5,7 +5,7 @@ _taxi() {
   local at=1 folder= choices= choice ending= current=${COMP_WORDS[COMP_CWORD]} commands='file show' faults= options='-C'
   COMPREPLY=()
   if [ "${1##*/}" = taxi ]; then
-    commands='check faults form tables rates lines compare fare seal run bench explain story totals sealed port gen offsets mark shifts'
+    commands='check faults form tables rates near lines compare fare seal run bench explain story totals sealed port gen offsets mark shifts'
     faults='TooLong Syntax NoStep StepZero Duplicate TooManyLines UnknownNumber NoDefaultRate NoDefaultInitial
       LineAfterDefault BadDate AmountTooBig MeasureZero NoCommonMeasure TooManyCuts TooManyCells
       Unknown Twice BadValue Missing BadLine SameMonth'
@@ -26,7 +26,7 @@ _taxi() {
     '0 '*) choices="$commands help version" ;;
     '1 help') choices="$commands $faults" ;;
     '1 mark') choices='on off' ;;
-    '1 check' | '1 faults' | '1 form' | '1 tables' | '1 rates' | '1 lines' | '1 compare' | '2 compare') ending=tariff ;;
+    '1 check' | '1 faults' | '1 form' | '1 tables' | '1 rates' | '1 near' | '1 lines' | '1 compare' | '2 compare') ending=tariff ;;
     '1 fare' | '1 seal' | '1 run' | '1 bench' | '1 explain' | '1 story') ending=tariff ;;
     '2 fare' | '2 run' | '2 bench' | '2 explain' | '2 story') ending=drive ;;
     '2 seal' | '3 explain' | '3 story') ending=params ;;

@@ -24,8 +24,8 @@ MEANING = {
     "AmountTooBig": "an amount is too large: up to 1,000,000 units of the last decimal (10,000.00 with two decimals), and "
     "up to 99,999,999 in an `initial` or `minimum` line",
     "MeasureZero": "a measure is 0: say another, and for what costs nothing the amount 0, as 0.00 per 50.0 m",
-    "NoCommonMeasure": "the least common multiple of all metres and seconds of the rates is above 10^18: take measures "
-    "that have factors in common",
+    "NoCommonMeasure": "the least common multiple of all metres and seconds of the rates is above 10^18: take the "
+    "tariff that `taxi near` prints, which has the nearest amounts for one pair of measures",
     "TooManyCuts": "the conditions cut the {0} in {1} places, and {2} may be: let lines share their borders",
     "TooManyCells": "there would be {0} cells, and 64,512 may be: they are positions x zones x days x the bands between "
     "the dates, times and distances that conditions name. Take some of these away",

@@ -4,13 +4,13 @@ use Rattle.tariff_commands.specs.{Check.{check_command}, Form.{form_command}, Li
 use Rattle.tariff_commands.specs.{Compare.{compare_command}, Faults.{faults_command}, Tables.{tables_command}}
 use Rattle.store_commands.specs.{Mark.{mark_command}, Port.{port_command}, Seal.{seal_command}, Totals.{totals_command}}
 use Rattle.store_commands.specs.{Offsets.{offsets_command}, Sealed.{sealed_command}, Shifts.{shifts_command}}
-use Rattle.{rate_commands.specs.Rates.{rates_command}, bench_commands.specs.Explain.{explain_command}}
-use Rattle.{bench_commands.specs.{Bench.{bench_command}, Story.{story_command}}, drive_commands.specs.Run.{run_command}}
-use Rattle.{drive_commands.specs.{Fare.{fare_command}, Generate.{gen_command}}, commands.specs.Common.{Command}}
-use Rattle.commands.specs.{NoCommand.{no_command}, declared.words.Row.{Row, TheVariants.{Story, Tables, Totals}}}
-use Rattle.commands.specs.Words.{row_of}
+use Rattle.{rate_commands.specs.Rates.{rates_command}, near_commands.specs.Near.{near_command}}
+use Rattle.bench_commands.specs.{Bench.{bench_command}, Explain.{explain_command}, Story.{story_command}}
+use Rattle.drive_commands.specs.{Fare.{fare_command}, Generate.{gen_command}, Run.{run_command}}
+use Rattle.commands.specs.{Common.{Command}, declared.words.Row.{Row, TheVariants.{Shifts, Story, Tables, Totals}}}
+use Rattle.commands.specs.{NoCommand.{no_command}, Words.{row_of}}
 use Rattle.commands.specs.declared.words.Row.TheVariants.{Bench, Check, Compare, Explain, Fare, Faults, Form, Gen}
-use Rattle.commands.specs.declared.words.Row.TheVariants.{Lines, Mark, Offsets, Port, Rates, Run, Seal, Sealed, Shifts}
+use Rattle.commands.specs.declared.words.Row.TheVariants.{Lines, Mark, Near, Offsets, Port, Rates, Run, Seal, Sealed}
 
 -- each row of words is a command, and words that are no row are refused
 abbrev pub command_of : Option Row → Command
@@ -35,6 +35,7 @@ command_of (Some Explain) = explain_command
 command_of (Some Story) = story_command
 command_of (Some (Compare k)) = compare_command k
 command_of (Some Faults) = faults_command
+command_of (Some Near) = near_command
 
 -- words only look at the store if their command opens the store and writes nothing; these commands are the six of
 -- `IsStoreQuery`, as the law six_commands_only_look says

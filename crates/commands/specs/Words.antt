@@ -3,9 +3,10 @@ use Rattle.std.specs.{Option.{option_map}, Prelude.{nat_le, nat_lt}, Str.Parse.{
 use Rattle.std.specs.Prelude.{[], ℕ, ◌&&◌, ◌==◌, ◌^◌, ◌∷◌, List, None, Option, Some, codes, if◌then◌else◌, length}
 use Rattle.{taxi_units.specs.{Number.{figure_in}, Words.{is_word}}, store_commands.specs.Years.{years_of}}
 use Rattle.{drive_modes.specs.Constant.{greatest_constant, least_constant}, shift_book.specs.Reading.{driver_of}}
-use Rattle.commands.specs.{Common.{digits_at_front}, declared.words.Row.{Row, TheVariants.{Story, Tables, Totals}}}
+use Rattle.commands.specs.{Common.{digits_at_front}, declared.words.Row.TheVariants.{Shifts, Story, Tables, Totals}}
+use Rattle.commands.specs.declared.words.Row.{Row}
 use Rattle.commands.specs.declared.words.Row.TheVariants.{Bench, Check, Compare, Explain, Fare, Faults, Form, Gen}
-use Rattle.commands.specs.declared.words.Row.TheVariants.{Lines, Mark, Offsets, Port, Rates, Run, Seal, Sealed, Shifts}
+use Rattle.commands.specs.declared.words.Row.TheVariants.{Lines, Mark, Near, Offsets, Port, Rates, Run, Seal, Sealed}
 
 -- a word is a constant if it is a number of at most 6 digits and of 500 to 200,000, and else none; `figure_in` gives
 -- the number of digits in a width and a range, as the law figures_are_read_by_their_digits of taxi_units says
@@ -41,7 +42,8 @@ one_word command =
     if is_word command (codes "totals") then Some Totals
     else (if is_word command (codes "sealed") then Some Sealed else None)
 
--- the row of two words is `check TARIFF`, `port REQUESTS`, `mark off`, `shifts BOOK`, `form TARIFF` or `faults TARIFF`
+-- the row of two words is `check TARIFF`, `port REQUESTS`, `mark off`, `shifts BOOK`, `form TARIFF`, `faults TARIFF` or
+-- `near TARIFF`
 abbrev pub two_words : (command last : List ℕ) → Option Row
 two_words command last =
     if is_word command (codes "check") then Some Check
@@ -49,7 +51,8 @@ two_words command last =
     else (if (is_word command (codes "mark") && is_word last (codes "off")) then Some (Mark None)
     else (if is_word command (codes "shifts") then Some Shifts
     else (if is_word command (codes "form") then Some Form
-    else (if is_word command (codes "faults") then Some Faults else None)))))
+    else (if is_word command (codes "faults") then Some Faults
+    else (if is_word command (codes "near") then Some Near else None))))))
 
 -- the row of three words is `tables TARIFF CONSTANT`, `seal TARIFF PARAMS`, `run TARIFF DRIVE`, `gen SEED N`, `mark on
 -- DRIVER`, `lines TARIFF CONSTANT` or `rates TARIFF CONSTANT`; `driver_of` gives a word as a driver if it is 1 to 16 of

@@ -16,6 +16,7 @@ use call_ends::{Ended, finish};
 use drive_commands::fare::fare;
 use drive_commands::generate::generate;
 use drive_commands::run::run;
+use near_commands::near::print_near;
 use outside::{Board, Files, STORE_SIZE};
 use rate_commands::rates::print_rates;
 use std::alloc::Global;
@@ -66,6 +67,7 @@ fn carry_out<F: Files, B: Board<STORE_SIZE, L>, L: Ledger>(
         Row::Story => tell_stories(alloc, files, board, steps),
         Row::Compare(k) => print_comparison(alloc, k, files, board, steps),
         Row::Faults => print_faults(alloc, files, board, steps),
+        Row::Near => print_near(alloc, files, board, steps),
     }
 }
 
@@ -97,6 +99,8 @@ fn carry_out<F: Files, B: Board<STORE_SIZE, L>, L: Ledger>(
 ///   meter in which it counts, or that it never does
 /// - `rates TARIFF CONSTANT`: for each rate its cross-over speed, the pulses of an interval at it, and the most that
 ///   mode S can charge an even speed too much; then the nearest constants under which that is at most 10 percent
+/// - `near TARIFF`: how far its amounts are off, and the tariff with the nearest amounts for one pair of measures, so
+///   that it has a common measure
 /// - `explain TARIFF DRIVE PARAMS`: why the fare of each hiring that the drive closes is what it is, on a new store
 ///   that is sealed with the tariff and the parameters
 /// - `story TARIFF DRIVE PARAMS`: what happened in each hiring that the drive closes, moment by moment, on such a store
@@ -110,7 +114,9 @@ fn carry_out<F: Files, B: Board<STORE_SIZE, L>, L: Ledger>(
 ///   passes, and for `compare`, the tariffs are the same
 /// - 1, `BAD WORDS`: exactly if the words are no command
 /// - 2, `BAD TARIFF` with `TooLong`, `Syntax n` or the fault: exactly if the tariff has more than 65,536
-///   bytes, its line n is the first that is no line of a tariff, or, but for `form`, this is its first fault; with
+///   bytes, its line n is the first that is no line of a tariff, or, but for `form`, this is its first fault; for
+///   `near` the first one other than NoCommonMeasure, or, if there is none, AmountTooBig or NoCommonMeasure for its
+///   near amounts; with
 ///   `faults` such a line for each line that is none of a tariff, or else for each fault;
 ///   `BAD OTHER` with the same, for `compare`: exactly if the other tariff isn't accepted for this
 /// - 3, `BAD DRIVE n` or `BAD DRIVE TOO LONG`, for `fare`, `run`, `bench`, `explain` and `story`: exactly if line n
@@ -175,8 +181,8 @@ pub fn taxi<F: Files, B: Board<STORE_SIZE, L>, L: Ledger>(
 
     // The steps: one for the last line, one for each row of tables, at most 31 for offsets; 64 for an opening of the
     // store, and for each event of a drive that is run and the supply drop at its end; one for each 512 bytes that are
-    // printed of a bench, a form, faults, lines, rates or a comparison; one for each reply, two for each byte of a
-    // shift book.
+    // printed of a bench, a form, faults, lines, rates, a near tariff or a comparison; one for each reply, two for each
+    // byte of a shift book.
     ensures steps { TakesSteps F.Files B.Printer (called_by words.now) files.old files.new board.old steps.old
         steps.new }
 

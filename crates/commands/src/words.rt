@@ -73,6 +73,8 @@ pub enum Row {
     Form,
     /// `faults TARIFF`
     Faults,
+    /// `near TARIFF`
+    Near,
     /// `lines TARIFF CONSTANT`
     Lines(Constant),
     /// `rates TARIFF CONSTANT`
@@ -172,6 +174,8 @@ fn two_words(command: &[u8], last: &[u8]) -> Option<Row>
         Some(Row::Form)
     } else if is_word(command, b"faults") {
         Some(Row::Faults)
+    } else if is_word(command, b"near") {
+        Some(Row::Near)
     } else {
         None
     }

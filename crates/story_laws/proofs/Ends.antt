@@ -1,20 +1,12 @@
 -- Stories end with their receipts.
-use Rattle.std.specs.{List.{AllZip}}
-use Rattle.std.proofs.Common.{[], ◌++◌, ◌∙◌, ◌∷◌, ◌≡◌, List, Option, ap, append_assoc}
-use Rattle.std.proofs.Common.{flat_map, map, refl, subst, sym}
-use Rattle.std.proofs.lemmas.List.{Elements.{All-nil, filter_map-append}}
-use Rattle.taxi_units.specs.declared.{event.{Event.{Event}}, receipt.{Receipt.{Receipt}}}
-use Rattle.totals_record.specs.States.{first_state}
-use Rattle.meter_model.specs.{Meter.{Meter}, Run.{actions_of, ended, opened, run}, Setting.{Setting}, Step.{step}}
-use Rattle.meter_model.specs.{KeptTrip.{IsTripKept}, Trip.{MeterTrip}}
-use Rattle.verify_bench.specs.{Receipts.{receipt_in, receipts_in}, TripExplanations.{trip_at}}
-use Rattle.verify_bench.specs.Story.{Telling, display_told, displays_in, end_of}
-use Rattle.verify_bench.specs.Story.{happenings_of}
-use Rattle.verify_bench.specs.Story.{moments_at, moments_of, rate_told}
-use Rattle.verify_bench.specs.Story.{stories_of}
-use Rattle.verify_bench.specs.declared.moment.{Moment.{Moment}}
+use Rattle.std.{specs.List.{AllZip}, proofs.lemmas.List.Elements.{All-nil, filter_map-append}}
+use Rattle.std.proofs.Common.{[], ◌++◌, ◌∙◌, ◌∷◌, ◌≡◌, List, Option, ap, append_assoc, flat_map, map, refl, subst, sym}
+use Rattle.{meter_model.specs.KeptTrip.{IsTripKept}, verify_bench.specs.{Receipts.{receipt_in}, Story.{end_of}}}
 use Rattle.story_laws.specs.ClosedStories.{EndsWith, GoesOn}
 use Rattle.story_laws.specs.Closings.{Closing, closings_from, closings_in, closings_of}
+use Rattle.story_laws.specs.Common.{Event, Meter, MeterTrip, Moment, Receipt, Setting, Telling, actions_of}
+use Rattle.story_laws.specs.Common.{display_told, displays_in, ended, first_state, happenings_of, moments_at}
+use Rattle.story_laws.specs.Common.{moments_of, opened, rate_told, receipts_in, run, step, stories_of, trip_at}
 use Rattle.story_laws.proofs.Stories.{AllGo, Passes, both, go_both, no_closing, one_closing, stories_match}
 use Rattle.taxi_units.specs.declared.event.Event.TheVariants as events
 

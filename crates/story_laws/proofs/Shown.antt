@@ -1,26 +1,19 @@
 -- Stories show what the run shows.
-use Rattle.std.specs.{Prelude.{if◌then◌else◌}}
+use Rattle.std.specs.Prelude.{if◌then◌else◌}
 use Rattle.std.proofs.Common.{[], ℕ, ◌++◌, ◌∙◌, ◌∷◌, ◌≡◌, Bool, List, None, Option, Some, ap, append_assoc, false}
-use Rattle.std.proofs.Common.{flat_map, map, refl, sym, true}
-use Rattle.std.proofs.lemmas.List.{append-nil, Elements.{filter_map-append}}
-use Rattle.taxi_units.specs.declared.{event.{Event.{Event}}, receipt.{Display.{Display}, Receipt.{Receipt}, Stamp.{Stamp}}}
-use Rattle.taxi_units.specs.declared.event.Operating.{Operating, TheVariants.{ForHire, Hired, Off, Stopped}}
-use Rattle.totals_record.specs.States.{first_state}
-use Rattle.meter_model.specs.{Meter.{Meter, Outcome}, Run.{actions_of, ended, opened, run}, Setting.{Setting}, Step.{step}}
-use Rattle.meter_model.specs.{Trip.{MeterTrip}, declared.act.Act.{Act}}
-use Rattle.verify_bench.specs.{Receipts.{receipts_in}, TripExplanations.{trip_at}}
-use Rattle.verify_bench.specs.Story.{HiringStory, Telling, display_told, displays_in, end_of}
-use Rattle.verify_bench.specs.Story.{happenings_of, is_in_trip, is_line}
-use Rattle.verify_bench.specs.Story.{moment_of, moments_at, moments_of, rate_in, rate_line, rate_told}
-use Rattle.verify_bench.specs.Story.{stories_of, told_behind, untold}
-use Rattle.verify_bench.specs.declared.moment.{Happening.{Happening}, Moment.{Moment}}
+use Rattle.std.proofs.{Common.{flat_map, map, refl, sym, true}, lemmas.List.{append-nil, Elements.{filter_map-append}}}
+use Rattle.{taxi_units.specs.declared.receipt.Stamp.{Stamp}, story_laws.specs.Common.{trip_at}}
+use Rattle.verify_bench.specs.Story.{end_of, is_line, moment_of, rate_in, rate_line, told_behind, untold}
+use Rattle.story_laws.specs.Common.{Act, Display, Event, ForHire, Happening, Hired, HiringStory, Meter, MeterTrip}
+use Rattle.story_laws.specs.Common.{Moment, Off, Operating, Outcome, Receipt, Setting, Stopped, Telling, actions_of}
+use Rattle.story_laws.specs.Common.{display_told, displays_in, ended, first_state, happenings_of, is_in_trip}
+use Rattle.story_laws.specs.Common.{moments_at, moments_of, opened, rate_told, receipts_in, run, step, stories_of}
 use Rattle.taxi_units.specs.declared.event.Event.TheVariants as events
 use Rattle.verify_bench.specs.declared.moment.Happening.TheVariants as happenings
 
+use Rattle.verify_bench.specs.Story.{display_in, moments_from, parted_at, stories_from}
 use Rattle.story_laws.specs.ClosedStories.{amounts_in, amounts_of, left_behind, left_from, shown_at, shown_by}
-use Rattle.story_laws.proofs.Told.{Each, Plain, plain_happenings}
-use Rattle.verify_bench.specs.Story.{display_in, kind_in, moments_from, moments_in, parted_at, stories_from}
-use Rattle.taxi_units.specs.declared.receipt.Kind.{Kind}
+use Rattle.story_laws.{specs.Common.{Kind, kind_in, moments_in}, proofs.Told.{Each, Plain, plain_happenings}}
 
 -- ---- moments in parts
 

@@ -1,19 +1,12 @@
 -- What kinds of happenings an event is told by.
-use Rattle.std.specs.{Prelude.{if◌then◌else◌, ◌&&◌, nat_le, ⊤}}
-use Rattle.std.proofs.Common.{[], ℕ, ◌++◌, ◌+◌, ◌∷◌, Bool, List, None, Option, Some, false}
-use Rattle.std.proofs.Common.{flat_map, map, true}
-use Rattle.std.proofs.lemmas.List.{Elements.{All-cons, All-nil}}
-use Rattle.taxi_units.specs.declared.{event.{Event.{Event}, Key.{Key}, Why.{Why}}, receipt.{Display.{Display}, Stamp.{Stamp}}}
-use Rattle.taxi_units.specs.declared.event.Operating.{Operating, TheVariants.{ForHire, Hired, Off, Stopped}}
-use Rattle.meter_model.specs.{Meter.{Meter, Outcome}, Setting.{Setting}}
-use Rattle.meter_model.specs.{Trip.{MeterTrip}}
-use Rattle.verify_bench.specs.Story.{Telling, display_told}
-use Rattle.verify_bench.specs.Story.{event_told, happenings_of, is_empty, is_in_trip, is_line, is_there, key_told, latch_told}
-use Rattle.verify_bench.specs.Story.{moment_of, rate_in, rate_line, rate_told, reading_told, reckoned}
-use Rattle.verify_bench.specs.Story.{refusals_told, supply_told, whys_in}
-use Rattle.verify_bench.specs.declared.moment.{Happening.{Happening}, Moment.{Moment}}
-use Rattle.story_laws.specs.ClosedStories.{GoesOn}
-use Rattle.story_laws.proofs.Stories.{AllGo}
+use Rattle.std.{specs.Prelude.{⊤, ◌&&◌, if◌then◌else◌, nat_le}, proofs.lemmas.List.Elements.{All-cons, All-nil}}
+use Rattle.std.proofs.Common.{[], ℕ, ◌++◌, ◌+◌, ◌∷◌, Bool, List, None, Option, Some, false, flat_map, map, true}
+use Rattle.taxi_units.specs.declared.{event.{Key.{Key}, Why.{Why}}, receipt.Stamp.{Stamp}}
+use Rattle.verify_bench.specs.Story.{event_told, is_empty, is_line, is_there, key_told, latch_told, moment_of, rate_in}
+use Rattle.verify_bench.specs.Story.{rate_line, reading_told, reckoned, refusals_told, supply_told, whys_in}
+use Rattle.story_laws.{specs.{ClosedStories.{GoesOn}, Common.{rate_told}}, proofs.Stories.{AllGo}}
+use Rattle.story_laws.specs.Common.{Display, Event, ForHire, Happening, Hired, Meter, MeterTrip, Moment, Off, Operating}
+use Rattle.story_laws.specs.Common.{Outcome, Setting, Stopped, Telling, display_told, happenings_of, is_in_trip}
 use Rattle.taxi_units.specs.declared.event.Event.TheVariants as events
 use Rattle.taxi_units.specs.declared.event.Key.TheVariants as keys
 use Rattle.verify_bench.specs.declared.moment.Happening.TheVariants as happenings

@@ -1,19 +1,13 @@
 -- Rules: how the story of a hiring is that of the trip and the receipt with which a drive closed it.
-use Rattle.std.specs.Prelude.{[], ℕ, ⊤, ◌++◌, ◌∷◌, ◌≡◌, ◌≤◌, All, List, None, Option, Some, if◌then◌else◌, nat_le, sum}
-use Rattle.std.specs.{List.{filter_map}, Prelude.{get_or, map}}
-use Rattle.{drive_modes.specs.Distance.{millimetres_of}, tariff_check.specs.SoundTariff.{lines_of}}
-use Rattle.tariff_tree.specs.declared.context.Context.{Context}
-use Rattle.meter_model.specs.Interval.{context_now, pulses_so_far, ticks_so_far}
-use Rattle.meter_model.specs.{Meter.{Meter}, Setting.{Setting, stamp_at}}
-use Rattle.meter_model.specs.Trip.{InHired, MeterTrip, Part, ticks_in}
-use Rattle.std.specs.Prelude.{flat_map}
-use Rattle.taxi_units.specs.declared.receipt.{Display.{Display}, Kind.{Kind}}
-use Rattle.meter_model.specs.declared.act.Act.{Act}
-use Rattle.verify_bench.specs.{Fees.{fees_of_hiring}, Groups.{rate_place_of}, Story.{HiringStory}}
-use Rattle.verify_bench.specs.Story.{displays_in, is_in_trip, kind_in}
-use Rattle.verify_bench.specs.declared.moment.{Happening.{Happening}, Moment.{Moment}}
-use Rattle.verify_bench.specs.declared.moment.Happening.TheVariants.{Ended, Hired, Rate, Shown}
+use Rattle.std.specs.{List.{filter_map}, Prelude.{if◌then◌else◌, map, nat_le, sum}}
+use Rattle.std.specs.Prelude.{[], ℕ, ⊤, ◌++◌, ◌∷◌, ◌≡◌, ◌≤◌, All, List, None, Option, Some, flat_map, get_or}
+use Rattle.{drive_modes.specs.Distance.{millimetres_of}, tariff_tree.specs.declared.context.Context.{Context}}
+use Rattle.{tariff_check.specs.SoundTariff.{lines_of}, meter_model.specs.Setting.{stamp_at}}
+use Rattle.meter_model.specs.{Interval.{context_now, pulses_so_far, ticks_so_far}, Trip.{InHired, Part, ticks_in}}
+use Rattle.verify_bench.specs.{Fees.{fees_of_hiring}, declared.moment.Happening.TheVariants.{Ended, Hired, Rate, Shown}}
+use Rattle.{verify_bench.specs.Groups.{rate_place_of}, story_laws.specs.Common.{displays_in, is_in_trip, kind_in}}
 use Rattle.story_laws.specs.Closings.{Closing}
+use Rattle.story_laws.specs.Common.{Act, Display, Happening, HiringStory, Kind, Meter, MeterTrip, Moment, Setting}
 
 -- ---- the end
 

@@ -1,10 +1,8 @@
 -- Rules: the trips that a drive closes, each with its receipt.
 use Rattle.std.specs.Prelude.{[], ◌++◌, ◌∷◌, List, Option, map}
-use Rattle.taxi_units.specs.declared.{event.Event.{Event, TheVariants.{Down}}, receipt.Receipt.{Receipt}}
-use Rattle.totals_record.specs.States.{first_state}
-use Rattle.meter_model.specs.{Meter.{Meter}, Run.{ended, opened}, Setting.{Setting}, Step.{step}, Trip.{MeterTrip}}
-use Rattle.meter_model.specs.declared.act.Act.{Act}
-use Rattle.verify_bench.specs.{Receipts.{receipts_in}, TripExplanations.{trip_at}}
+use Rattle.taxi_units.specs.declared.event.Event.TheVariants.{Down}
+use Rattle.story_laws.specs.Common.{Act, Event, Meter, MeterTrip, Receipt, Setting, ended, first_state, opened}
+use Rattle.story_laws.specs.Common.{receipts_in, step, trip_at}
 
 -- a trip is closed with a receipt; a trip is there, as the law stories_begin_with_their_hirings says
 pub record Closing : Type 0 where

@@ -1,10 +1,8 @@
 //! What the stories of a drive are of.
 ghost use Rattle.std.specs.{List.{AllZip}, Prelude.{[], ◌++◌, ◌≡◌, List, flat_map, map}};
-ghost use Rattle.taxi_units.specs.declared.{event.Event.{Event}, receipt.Receipt.{Receipt}};
-ghost use Rattle.meter_model.specs.{Run.{actions_of}, Setting.{Setting}};
-ghost use Rattle.totals_record.specs.States.{first_state};
-ghost use Rattle.verify_bench.specs.{Receipts.{receipts_in}, Story.{HiringStory, moments_in, stories_of}};
-ghost use Rattle.story_laws.specs.{ClosedStories.{EndsWith, left_from, shown_at, shown_by}, Closings.{Closing, closings_of}};
+ghost use Rattle.story_laws.specs.ClosedStories.{EndsWith, left_from, shown_at, shown_by};
+ghost use Rattle.story_laws.specs.{Closings.{Closing, closings_of}, Common.{receipts_in, stories_of}};
+ghost use Rattle.story_laws.specs.Common.{Event, HiringStory, Receipt, Setting, actions_of, first_state, moments_in};
 
 /// A law: the closings of a drive have the receipts of the meter's run on a new store, each once and in order, and the
 /// stories are theirs, one for each. Each story ends with its receipt, and with the ticks and pulses of its trip.

@@ -51,6 +51,9 @@ returns-in-Story g c = rw c.in-Story.is (record { carries = c.tell_stories.ensur
 pub returns-in-Compare : goal.returns-in-Compare
 returns-in-Compare g c = rw c.in-Compare.is (record { carries = c.print_comparison.ensures; comes = tt })
 
+pub returns-in-Near : goal.returns-in-Near
+returns-in-Near g c = rw c.in-Near.is (record { carries = c.print_near.ensures; comes = tt })
+
 pub returns-in-Faults : goal.returns-in-Faults
 returns-in-Faults g c = rw c.in-Faults.is (record { carries = c.print_faults.ensures; comes = tt })
 
