@@ -2,7 +2,7 @@
 # of files are left to the shell's own completion: they come into no `eval` and no `compgen -W`, and only what was typed behind
 # -C is used, as the name of a folder.
 _taxi() {
-  local at=1 folder= choices= choice ending= current=${COMP_WORDS[COMP_CWORD]} commands='file show' faults= options='-C'
+  local at=1 folder= choices= choice ending= current=${COMP_WORDS[COMP_CWORD]} commands='file show rows' faults= options='-C'
   COMPREPLY=()
   if [ "${1##*/}" = taxi ]; then
     commands='check faults form tables rates near lines compare fare seal run bench explain story totals sealed port gen offsets mark shifts'
@@ -34,7 +34,7 @@ _taxi() {
     '1 port') ending=requests ;;
     '1 offsets') ending=rules ;;
     '1 shifts') ending=book ;;
-    '1 file') ending=roll ;;
+    '1 file' | '1 rows') ending=roll ;;
   esac
   if [ -n "$ending" ]; then
     # A name of a file: one of the ending, or a folder, or where none has the ending any name.

@@ -7,9 +7,9 @@ import time
 
 from each_call import CITY, PARAMS
 from filings import left_by, roll_of
-from heglorwy.roll import receipts_in, units
 from support.built import Amiss, expect
 from support.drives import LATER, drive_of, text_of
+from support.roll import receipts_in, units
 
 
 class Killed:

@@ -13,8 +13,8 @@ import tempfile
 
 import medium
 from each_call import ROWS
-from heglorwy import roll
-from heglorwy.roll import units
+from support import roll
+from support.roll import units
 
 TOP = pathlib.Path(__file__).resolve().parents[2]
 PROGRAM = os.environ.get("TAXI_PROGRAM") or str(TOP / "crates/taxi_cli/out/taxi_cli")
@@ -160,7 +160,7 @@ def check_sealing(before):
 def receipts_in(text):
     """The whole receipts of a text: number, fare, supplements and distance in their smallest units."""
     found = [receipt.fields for receipt in roll.receipts_in(text.encode())]
-    return [(one["receipt"], *(units(one[name]) for name in ("fare", "supplements", "distance_m"))) for one in found]
+    return [(one["receipt"], *(units(one[name]) for name in ("fare", "supplements", "distance"))) for one in found]
 
 
 def differ(totals, receipts):

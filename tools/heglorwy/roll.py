@@ -1,95 +1,38 @@
-"""The receipts of a roll, by the grammar of docs/FORMATS.md, 'Receipts'."""
+"""The receipts of rolls, as `hiring_log rows` prints them."""
 
 import collections
+import csv
 import datetime
-import re
+import io
 
-from heglorwy.tariff_kinds import LARGEST_FARE, ON_RECEIPTS
+from heglorwy.program import Refused, Scratch, read
 
-COLUMNS = ["receipt", "kind", "taxi", "constant", "secured", "tariff", "start", "finish", "position", "distance_m",
-           "initial", "steps", "step", *ON_RECEIPTS, "fare", "supplements", "total"]
+COLUMNS = ["receipt", "kind", "taxi", "constant", "secured", "tariff", "start", "finish", "position", "distance",
+           "initial", "steps", "step", "minimum", "fare", "supplements", "total"]
 WHOLE = ["receipt", "constant", "position", "steps"]
 
-# A receipt: its fields by the names of the columns, the day on which it finished, its text as it was printed, the place
-# of the roll where it begins, and a name of that place, where it has one.
-Receipt = collections.namedtuple("Receipt", "fields finished text place where", defaults=[""])
-
-NUMBER = r"(?:0|[1-9][0-9]{0,19})"  # no number of a receipt has more digits
-MONEY = NUMBER + r"(?:\.[0-9]{1,3})?"
-DAY = r"[0-9]{4}-[0-9]{2}-[0-9]{2}"
-STAMP = DAY + r" [0-9]{2}:[0-9]{2}:[0-9]{2}"
-LINES = re.compile("".join([
-
-    rf"RECEIPT (?P<receipt>{NUMBER})\n", r"KIND (?P<kind>CLOSED|ABORTED|EXPIRED)\n", r"TAXI (?P<taxi>[A-Z0-9-]{1,16})\n",
-    rf"CONSTANT (?P<constant>{NUMBER})\n", rf"SECURED (?P<secured>{DAY})\n", r"TARIFF (?P<tariff>[0-9a-f]{64})\n",
-    rf"START (?P<start>{STAMP})\n", rf"FINISH (?P<finish>{STAMP})\n", rf"POSITION (?P<position>{NUMBER})\n",
-    rf"DISTANCE (?P<distance_m>{NUMBER}\.[0-9]{{3}}) m\n",
-    rf"CALC (?P<initial>{MONEY}) \+ (?P<steps>{NUMBER}) x (?P<step>{MONEY})\n",
-    *(rf"(?:{word.upper()} (?P<{word}>{MONEY})\n)?" for word in ON_RECEIPTS),
-    rf"FARE (?P<fare>{MONEY})\n", rf"SUPPLEMENTS (?P<supplements>{MONEY})\n", rf"TOTAL (?P<total>{MONEY})\n", r"END\n",
-]).encode())
-
-LARGEST_SUPPLEMENTS = 1_584_000_000
+# A receipt: its fields by the names of the columns, the day on which it finished, and its place among those of its roll.
+Receipt = collections.namedtuple("Receipt", "fields finished where")
 
 
-def units(amount):
-    return int(amount.replace(".", ""))
+def receipts_in(path):
+    """The receipts of a roll. A row is that of one receipt."""
+    with Scratch("hiring_log") as folder:
+        printed, status = folder.call("rows", text=read(path))
+    if status:
+        raise Refused(status, f"{path}: hiring_log rows ends with {status}: {printed.decode().splitlines()[-1:]}")
+    for place, row in enumerate(csv.DictReader(io.StringIO(printed.decode())), 1):
+        fields = row | {name: int(row[name]) for name in WHOLE}
+        yield Receipt(fields, datetime.date.fromisoformat(row["finish"][:10]), f"receipt {place} of {path}")
 
 
-def decimals(amount):
-    return len(amount.partition(".")[2])
-
-
-def has_sums(fields):
-    """Whether the amounts have one number of decimals and their ranges, and fare and total are as they add up."""
-    names = ("initial", "step", *ON_RECEIPTS, "fare", "supplements", "total")
-    money = {name: fields[name] for name in names if fields[name]}
-    if len({decimals(amount) for amount in money.values()}) != 1:
-        return False
-    amount = collections.defaultdict(int, {name: units(text) for name, text in money.items()})
-    if not (amount["initial"] <= LARGEST_FARE and 1 <= amount["step"] <= 1_000_000 and fields["steps"] < 10**18
-            and amount["supplements"] <= LARGEST_SUPPLEMENTS):
-        return False
-    if any(fields[word] and not 1 <= amount[word] <= LARGEST_FARE for word in ON_RECEIPTS):
-        return False
-    fare = max(amount["initial"] + fields["steps"] * amount["step"], amount["minimum"])
-    return amount["fare"] == min(fare, LARGEST_FARE) and amount["total"] == amount["fare"] + amount["supplements"]
-
-
-def receipt_of(match):
-    """The receipt that the lines are, or None where a number, a date or a sum is none of a receipt."""
-    fields = {name: (match[name] or b"").decode() for name in COLUMNS}
-    fields |= {name: int(fields[name]) for name in WHOLE}
-    try:
-        secured = datetime.date.fromisoformat(fields["secured"])
-        start, finish = (datetime.datetime.strptime(fields[name], "%Y-%m-%d %H:%M:%S") for name in ("start", "finish"))
-    except ValueError:
-        return None
-    ranged = (1 <= fields["receipt"] <= 2 * 10**15 + 1 and 500 <= fields["constant"] <= 200_000
-              and 1 <= fields["position"] <= 9 and 2000 <= secured.year <= 2199
-              and 1999 <= start.year <= 2200 and 1999 <= finish.year <= 2200
-              and units(fields["distance_m"]) < 10**23)
-    return Receipt(fields, finish.date(), match[0], match.start()) if ranged and has_sums(fields) else None
-
-
-def receipts_in(roll):
-    """The receipts of a roll: at each place the one with which what is left begins, if there is one."""
-    place = 0
-    while match := LINES.search(roll, place):
-        receipt = receipt_of(match)
-        place = match.end() if receipt else match.start() + 1
-        if receipt:
-            yield receipt
-
-
-def newly_filed(receipts, taken):
-    """What a log that has the receipts `taken` takes of a roll, and at which receipt of it, counted from 1, another taxi
-    ends the filing, if one does."""
-    new = []
-    for place, receipt in enumerate(receipts, 1):
-        newest = (new or taken)[-1].fields if new or taken else None
-        if newest and receipt.fields["taxi"] != newest["taxi"]:
-            return new, place
-        if not newest or receipt.fields["receipt"] > newest["receipt"]:
-            new.append(receipt)
-    return new, None
+def receipts_of(paths):
+    """The receipts of rolls of one taxi, but those that were there before, as in a roll that is named twice."""
+    kept, taxi = {}, None
+    for path in paths:
+        for place, receipt in enumerate(receipts_in(path), 1):
+            taxi = taxi or receipt.fields["taxi"]
+            if receipt.fields["taxi"] != taxi:
+                raise Refused(4, f"{path}: receipt {place} of the roll, counted from 1, is of another taxi")
+            kept.setdefault(tuple(receipt.fields.values()), receipt)
+    return list(kept.values())

@@ -2,20 +2,10 @@
 don't fall."""
 
 
-def distinct(receipts):
-    """The receipts whose very text wasn't there before, as it was in a roll that is named twice."""
-    texts = set()
-    for receipt in receipts:
-        if receipt.text not in texts:
-            texts.add(receipt.text)
-            yield receipt
-
-
 def named(receipt):
     """What a person finds a receipt by."""
     fields = receipt.fields
-    place = f" ({receipt.where})" if receipt.where else ""
-    return f"receipt {fields['receipt']} of {fields['start']} to {fields['finish']}, total {fields['total']}{place}"
+    return f"receipt {fields['receipt']} of {fields['start']} to {fields['finish']}, total {fields['total']} ({receipt.where})"
 
 
 def disorder_in(receipts):

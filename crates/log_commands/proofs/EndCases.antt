@@ -1,8 +1,8 @@
 -- Which ends and statuses the finding of the log's end and the filing of a roll come to.
 use Rattle.std.proofs.Common.{ℕ, ◌∙◌, ◌≡◌, ◌≢◌, ◌≤◌, Err, List, None, Ok, Option, Result, Some, arith, inl, inr, refl}
-use Rattle.{std.proofs.Common.{sym}, slot_store.proofs.Laws.{from_sync_as}}
-use Rattle.log_commands.specs.{Calls.{AreFew, MayHave, MayHaveReadFault, WritesNothing}, Filings.{MayHaveFailed}}
-use Rattle.log_commands.specs.Common.{BoardFault, Call, File, FileEnd, Ghosts, LeavesFromSync, ReadFault, Show}
+use Rattle.{std.proofs.Common.{sym}, slot_store.proofs.Laws.{from_sync_as}, log_commands.specs.Filings.{MayHaveFailed}}
+use Rattle.log_commands.specs.Calls.{AreFew, MayHave, MayHaveReadFault, TakesNothing, WritesNothing}
+use Rattle.log_commands.specs.Common.{BoardFault, Call, File, FileEnd, Ghosts, LeavesFromSync, ReadFault, Rows, Show}
 use Rattle.log_commands.specs.{Endings.{filing_end, status_of, unread_end}, declared.finding.FindFault.{FindFault}}
 use Rattle.log_commands.proofs.NewestFound.{same_fault}
 use Rattle.log_commands.specs.declared.file_roll.FileEnd.TheVariants as ends
@@ -49,9 +49,23 @@ pub filing_writes : (end : FileEnd) (status : ℕ) → status ≡ status_of (fil
 filing_writes end status is (inl not) = not refl
 filing_writes end status is (inr range) = in_range end (omega (arith, is, range.0)) (omega (arith, is, range.1))
 
+pub filing_takes : (end : FileEnd) (status : ℕ) → status ≡ status_of (filing_end end)
+    → TakesNothing (Some File) status → ⊥
+filing_takes end status is (inl not) = not.0 refl
+filing_takes end status is (inr range) = in_range end (omega (arith, is, range.0)) (omega (arith, is, range.1))
+
 pub fault_writes : WritesNothing (Some File) 8 → ⊥
 fault_writes (inl not) = not refl
 fault_writes (inr range) = omega (arith, range.1)
+
+pub fault_takes : TakesNothing (Some File) 8 → ⊥
+fault_takes (inl not) = not.0 refl
+fault_takes (inr range) = omega (arith, range.1)
+
+-- `rows` takes what it reads
+pub rows_take : (status : ℕ) → MayHave (Some Rows) status → TakesNothing (Some Rows) status → ⊥
+rows_take status has (inl not) = not.1 refl
+rows_take status has (inr range) = omega (arith, has, range.0, range.1)
 
 -- ---- the statuses that a call may have
 
@@ -76,6 +90,7 @@ pub fault_has : (call : Option Call) (status : ℕ) → status ≡ 8 → MayHave
 fault_has None status is = inr is
 fault_has (Some Show) status is = inr (inr (inr is))
 fault_has (Some File) status is = (omega (arith, is), (omega (arith, is), omega (arith, is)))
+fault_has (Some Rows) status is = inr (inr (inr is))
 
 -- a bound of steps holds of fewer
 pub few_are_fewer : (call : Option Call) (before more now : ℕ) → AreFew call before more → now ≤ more
@@ -83,6 +98,7 @@ pub few_are_fewer : (call : Option Call) (before more now : ℕ) → AreFew call
 few_are_fewer None before more now few fewer = omega (arith, few, fewer)
 few_are_fewer (Some Show) before more now few fewer = omega (arith, few, fewer)
 few_are_fewer (Some File) before more now few fewer = tt
+few_are_fewer (Some Rows) before more now few fewer = tt
 
 module _ {D L T : Type 0} {N : ℕ} (B : Ghosts D N L) (kind : List ℕ → List ℕ → Type 0) (old new : D)
     (r : Result T FindFault) where

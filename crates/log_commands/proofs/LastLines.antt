@@ -1,19 +1,20 @@
 -- What a call comes to when its last line is printed.
 use Rattle.std.proofs.Common.{[], ℕ, ◌++◌, ◌+◌, ◌<◌, ◌∙◌, ◌∷◌, ◌≡◌, ◌≢◌, ◌≤◌, ◌⊎◌, List, None, Option, Some, ap}
 use Rattle.std.proofs.Common.{append_assoc, arith, inl, inr, length, length-append, refl, subst, sym}
-use Rattle.{std.proofs.lemmas.{Bool.{cases_eq}, List.{ext_get_or}}, log_commands.specs.Calls.{WritesNothing, shown_of}}
+use Rattle.{std.proofs.lemmas.{Bool.{cases_eq}, List.{ext_get_or}}, log_commands.specs.Filed.{EndsAt, Files, IsOther}}
 use Rattle.outside.specs.{Runs.{IsAtRest, LeavesNow, MayHold}, declared.files.Files.{Ghosts as FileGhosts}}
 use Rattle.outside.proofs.Laws.{begins_after, begins_more, leaves_kept, leaves_then, leaves_wider}
 use Rattle.log_commands.specs.BeforeLastLine.{CallReachesLine, IsBrokenOff, IsDue, IsTold}
 use Rattle.log_commands.specs.Calls.{AppendsNothing, IsCall, IsCutShort, IsFit, IsNewestOf, IsOfTaxi, IsOneTaxi}
 use Rattle.log_commands.specs.Calls.{IsWhole, LeavesLog, LeavesLogUnwritten, MayEnd, MayHave, MayHaveReadFault}
+use Rattle.log_commands.specs.{Calls.{TakesNothing, WritesNothing, shown_of}, Filed.Files.{appended, over, passed}}
 use Rattle.log_commands.specs.Common.{BadLog, BadWords, Begins, BoardFault, BrokenLog, Call, Ended, File, Filed, Ghosts}
-use Rattle.log_commands.specs.Common.{KeepsStore, LeavesFromSync, LeavesOnly, MayLeave, OtherTaxi, ReadFault, ReadsOnly}
-use Rattle.log_commands.specs.{Common.{RisesOnlyIf, Rose, SameBut, Show, Shown, TooLong, stream_limit}, Record.{Record}}
+use Rattle.log_commands.specs.Common.{KeepsStore, LeavesFromSync, LeavesOnly, Listed, MayLeave, OtherTaxi, ReadFault}
+use Rattle.log_commands.specs.Common.{ReadsOnly, RisesOnlyIf, Rose, Rows, SameBut, Show, Shown, TooLong, stream_limit}
 use Rattle.log_commands.{specs.Endings.{line_of, status_of}, proofs.{CallEnds.{some_all}, OneList.{none_bad, one_list}}}
-use Rattle.log_commands.specs.{Filed.{EndsAt, Files, IsOther}, LogList.{StandsFor, last_ones}}
-use Rattle.log_commands.specs.{Filed.Files.{appended, over, passed}, Filings.{StandsForSome, newest_of}}
-use Rattle.log_commands.proofs.{AgainFiled.{again_nothing}, Causes.{rises_later}, EndCases.{fault_has}}
+use Rattle.log_commands.specs.{Filings.{StandsForSome, newest_of}, LogList.{StandsFor, last_ones}, Record.{Record}}
+use Rattle.log_commands.proofs.{AgainFiled.{again_nothing}, Causes.{rises_later}, ReadOnlyCalls.{reads_none}}
+use Rattle.log_commands.proofs.EndCases.{fault_has}
 use Rattle.log_commands.specs.declared.file_roll.FileEnd.TheVariants as ends
 
 -- ---- statuses
@@ -21,6 +22,7 @@ use Rattle.log_commands.specs.declared.file_roll.FileEnd.TheVariants as ends
 pub eight_is : (ended : Ended) → status_of ended ≡ 8 → ended ≡ BoardFault
 eight_is (Filed count) e = absurd (omega (arith, e))
 eight_is Shown e = absurd (omega (arith, e))
+eight_is Listed e = absurd (omega (arith, e))
 eight_is BadWords e = absurd (omega (arith, e))
 eight_is (BadLog slot) e = absurd (omega (arith, e))
 eight_is BrokenLog e = absurd (omega (arith, e))
@@ -39,6 +41,7 @@ may_later : (call : Option Call) (image roll rest : List ℕ) (read_failed then 
     → MayEnd call image roll rest read_failed now ended found filed
 may_later call image roll rest read_failed then now (Filed count) found filed later may = may
 may_later call image roll rest read_failed then now Shown found filed later may = may
+may_later call image roll rest read_failed then now Listed found filed later may = may
 may_later call image roll rest read_failed then now BadWords found filed later may = may
 may_later call image roll rest read_failed then now (BadLog slot) found filed later may = may
 may_later call image roll rest read_failed then now BrokenLog found filed later may = may
@@ -97,6 +100,11 @@ module _ {D L : Type 0} {N : ℕ} (B : Ghosts D N L) where
       → KeepsStore B mid log' → LeavesLogUnwritten B log log' status
   search_keeps log mid log' status now reads same keeps = search_print log mid log' 0 status now
       (search_read log mid 0 reads (λ not. same)) keeps (λ not. λ zero. omega (arith, zero))
+
+  -- a call that only printed
+  pub search_kept : (log log' : D) (status : ℕ) → LeavesNow B log → KeepsStore B log log'
+      → LeavesLogUnwritten B log log' status
+  search_kept log log' status now keeps = search_keeps log log log' status now (reads_none B log now) refl keeps
 
   -- what a filing left is left
   leaves_printed : (log mid log' : D) (list filed : List Record) (status status' : ℕ) → LeavesNow B mid → LeavesLog B
@@ -195,6 +203,13 @@ module _ {D L : Type 0} {N : ℕ} (B : Ghosts D N L) where
   writes_before call ended log log' status (inl whole) (inr range) = subst (WritesNothing call) whole.0 (inr range)
   writes_before call ended log log' status (inr cut) (inr range) = absurd (omega (arith, cut.0, range.1))
 
+  -- and what takes nothing of the roll has taken nothing
+  pub takes_before : (call : Option Call) (ended : Ended) (log log' : D) (status : ℕ) → IsTold B ended log log' status
+      → TakesNothing call status → TakesNothing call (status_of ended)
+  takes_before call ended log log' status told (inl not) = inl not
+  takes_before call ended log log' status (inl whole) (inr range) = subst (TakesNothing call) whole.0 (inr range)
+  takes_before call ended log log' status (inr cut) (inr range) = absurd (omega (arith, cut.0, range.1))
+
   -- and only looks at the log behind it too
   pub search_told : (log mid log' : D) (ended : Ended) (status : ℕ) → LeavesNow B mid
       → LeavesLogUnwritten B log mid (status_of ended) → KeepsStore B mid log' → IsTold B ended mid log' status
@@ -246,6 +261,9 @@ module _ {E D L : Type 0} {N : ℕ} (F : FileGhosts E) (B : Ghosts D N L) where
   show_no_file : ◌≡◌ {A = Option Call} (Some Show) (Some File) → ⊥
   show_no_file e = absurd cc
 
+  rows_no_file : ◌≡◌ {A = Option Call} (Some Rows) (Some File) → ⊥
+  rows_no_file e = absurd cc
+
   none_no_some : (call : Option Call) (command : Call) → call ≡ None → call ≡ Some command → ⊥
   none_no_some call command e f = absurd cc
 
@@ -260,6 +278,7 @@ module _ {E D L : Type 0} {N : ℕ} (F : FileGhosts E) (B : Ghosts D N L) where
         again_nothing (ends.Filed count) found filed up.last (B.image log') (F.rest files 1)
         (F.rest files' 1) tt up.ends ((leaves found up.stands).stands (λ e. omega (arith, is, e)))
     again_end call Shown found filed file may leaves is good = absurd (show_no_file (sym may.0 ∙ file))
+    again_end call Listed found filed file may leaves is good = absurd may
     again_end call BadWords found filed file may leaves is good = absurd (none_no_some call File may file)
     again_end call (BadLog slot) found filed file may leaves is good = absurd (omega (arith, is, good))
     again_end call BrokenLog found filed file may leaves is good = absurd (omega (arith, is, good))
@@ -313,6 +332,7 @@ module _ {E D L : Type 0} {N : ℕ} (F : FileGhosts E) (B : Ghosts D N L) where
       → IsFit command roll newest → (length roll < stream_limit) × IsOneTaxi roll newest
   fit_file call File roll newest calls file fit = fit
   fit_file call Show roll newest calls file fit = absurd (show_no_file (sym calls ∙ file))
+  fit_file call Rows roll newest calls file fit = absurd (rows_no_file (sym calls ∙ file))
 
   module _ (files files' : E) (log log' : D) (status : ℕ) (records : List Record)
       (stands : StandsFor records (B.image log))
@@ -323,6 +343,7 @@ module _ {E D L : Type 0} {N : ℕ} (F : FileGhosts E) (B : Ghosts D N L) where
         (Rose (B.faults log) (B.faults log')) ended found filed → status ≡ status_of ended → status ≡ 0
     whole_end call (Filed count) found filed calls may is = is
     whole_end call Shown found filed calls may is = is
+    whole_end call Listed found filed calls may is = absurd may
     whole_end call BadWords found filed calls may is = absurd (none_no_some call command may calls)
     whole_end call (BadLog slot) found filed calls may is =
         absurd (none_bad (B.image log) records slot may.1.small stands may.1.bad)

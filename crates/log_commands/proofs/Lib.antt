@@ -54,5 +54,7 @@ mod Staged
 mod Tails
 -- what was handed out of a roll, when no more of it is read
 mod WholeRolls
+-- what a call of `rows` comes to
+mod RowsEnds
 -- words that are two
 mod WordPairs

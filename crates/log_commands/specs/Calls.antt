@@ -2,9 +2,9 @@
 use Rattle.std.specs.Prelude.{[], ℕ, ◌*◌, ◌++◌, ◌+◌, ◌<◌, ◌∷◌, ◌≡◌, ◌≢◌, ◌≤◌, ◌⊎◌, List, None, Option, Some, length}
 use Rattle.outside.specs.{Runs.{IsAtRest, MayHold}, declared.files.Files.{Ghosts as FileGhosts}}
 use Rattle.log_commands.specs.Common.{BadLog, BadWords, Begins, BoardFault, BrokenLog, Call, Ended, File, FileEnd}
-use Rattle.log_commands.specs.Common.{Filed, Ghosts, LeavesFromSync, LeavesOnly, OtherTaxi, ReadFault, Rose, SameBut}
-use Rattle.log_commands.specs.{Common.{Show, Shown, TooLong, stream_limit}, Unread.{IsBroken, IsLowestBad}}
-use Rattle.log_commands.specs.{Endings.{line_of, status_of}, Filed.{EndsAt, IsFiledOf}, ShownLog.{texts_of}}
+use Rattle.log_commands.specs.Common.{Filed, Ghosts, LeavesFromSync, LeavesOnly, Listed, OtherTaxi, ReadFault, Rose}
+use Rattle.log_commands.specs.{Common.{Rows, SameBut, Show, Shown, TooLong, stream_limit}, Endings.{line_of, status_of}}
+use Rattle.log_commands.specs.{Filed.{EndsAt, IsFiledOf}, ShownLog.{texts_of}, Unread.{IsBroken, IsLowestBad}}
 use Rattle.log_commands.specs.{FilingEnds.{EndsAs, IsTold, StandsForSome, newest_of}, LogList.{StandsFor, last_ones}}
 use Rattle.log_commands.specs.{Record.{Record}, Roll.{Reads}}
 use Rattle.log_commands.specs.declared.file_roll.FileEnd.TheVariants as ends
@@ -15,19 +15,21 @@ AppendsNothing image roll =
     (records filed : List Record) (rest : List ℕ) → StandsFor records image
     → IsFiledOf (newest_of records) roll rest filed → filed ≡ []
 
--- what a call gives is known of words that are no command, of `show` if the log's image is told, and of `file` if the
--- contents of the roll are told too
+-- what IsCall says of a call is known of words that are no command, of `show` if the log's image is told, and of `file`
+-- if the contents of the roll are told too; of `rows` IsRowsCall says it, in RowsCalls
 abbrev pub known_of : Option Call → (files_tell image_told : Type 0) → Type 0
 known_of None files_tell image_told = Unit {0}
 known_of (Some Show) files_tell image_told = image_told
 known_of (Some File) files_tell image_told = files_tell × image_told
+known_of (Some Rows) files_tell image_told = ⊥
 
 -- a call may end with these statuses, whatever is told: refused words with 1, `show` with 0, 2 and 3, `file` with 0, 2,
--- 3, 4, 5 and 7, and each of them with 8
+-- 3, 4, 5 and 7, `rows` with 0, 5 and 7, and each of them with 8
 abbrev pub MayHave : Option Call → (status : ℕ) → Type 0
 MayHave None status = (status ≡ 1) ⊎ (status ≡ 8)
 MayHave (Some Show) status = (status ≡ 0) ⊎ ((status ≡ 2) ⊎ ((status ≡ 3) ⊎ (status ≡ 8)))
 MayHave (Some File) status = (status ≤ 8) × ((status ≢ 1) × (status ≢ 6))
+MayHave (Some Rows) status = (status ≡ 0) ⊎ ((status ≡ 5) ⊎ ((status ≡ 7) ⊎ (status ≡ 8)))
 
 -- a read of the roll may have failed in a call that ends with this status: at 7 one has, and at 4 and 8 one may have,
 -- since what was taken of the roll before it is still gone through
@@ -35,11 +37,12 @@ abbrev pub MayHaveReadFault : (status : ℕ) → Type 0
 MayHaveReadFault status = (status ≡ 4) ⊎ ((status ≡ 7) ⊎ (status ≡ 8))
 
 -- the steps of a call are bounded, of refused words by 1 and of `show` by 771; `IsCall` bounds those of `file` by what
--- it files
+-- it files, and `IsRowsCall` those of `rows` by the receipts of the roll
 abbrev pub AreFew : Option Call → (before now : ℕ) → Type 0
 AreFew None before now = now ≤ before + 1
 AreFew (Some Show) before now = now ≤ before + 771
 AreFew (Some File) before now = Unit {0}
+AreFew (Some Rows) before now = Unit {0}
 
 -- words are a command if they call for something that the program does
 abbrev pub IsCommand : Option Call → Type 0
@@ -68,10 +71,12 @@ module _ (call : Option Call) (image roll rest : List ℕ) where
 
 -- of a call also: whether the count of faults of its roll rose, and that of its board
 module _ (call : Option Call) (image roll rest : List ℕ) (read_failed board_failed : Type 0) where
-  -- a call may end so if it has the end's reason, with the list that was found and the receipts that were filed
+  -- a call but `rows` may end so if it has the end's reason, with the list that was found and the receipts that were
+  -- filed
   abbrev pub MayEnd : Ended → (found filed : List Record) → Type 0
   MayEnd (Filed count) found filed = FilesUpTo call image roll rest (ends.Filed count) found filed
   MayEnd Shown found filed = (call ≡ Some Show) × StandsFor found image
+  MayEnd Listed found filed = ⊥
   MayEnd BadWords found filed = call ≡ None
   MayEnd (BadLog slot) found filed = IsCommand call × IsLowestBad image slot
   MayEnd BrokenLog found filed = IsCommand call × IsBroken image
@@ -122,6 +127,10 @@ module _ {D L : Type 0} {N : ℕ} (B : Ghosts D N L) where
     pub flight : (place : ℕ) → B.in_flight log' place → B.in_flight log place
     pub moments : LeavesOnly B log log' (λ left_image left_text. MayHold (B.image log) (B.in_flight log) left_image)
 
+-- a call takes nothing of the roll if it is neither `file` nor `rows`, or if its words or its log are refused
+abbrev pub TakesNothing : Option Call → (status : ℕ) → Type 0
+TakesNothing call status = ((call ≢ Some File) × (call ≢ Some Rows)) ⊎ ((1 ≤ status) × (status ≤ 3))
+
 -- a call writes nothing if it isn't `file`, or if its words or its log are refused
 abbrev pub WritesNothing : Option Call → (status : ℕ) → Type 0
 WritesNothing call status = (call ≢ Some File) ⊎ ((1 ≤ status) × (status ≤ 3))
@@ -157,8 +166,9 @@ pub record IsOneTaxi (roll : List ℕ) (newest : Option Record) : Type 0 where
   pub receipts : (receipts : List Record) (rest : List ℕ) → Reads roll receipts rest → IsOfTaxi taxi receipts
   pub newest_is : IsNewestOf taxi newest
 
--- a roll is fit for a command if the command doesn't file it, or if it has fewer than 2^40 bytes and is of one taxi, of
--- which the newest record of the log is too
+-- a roll is fit for `rows` if it has fewer than 2^40 bytes, and for `file` if it is also of one taxi, of which the newest
+-- record of the log is too; `show` takes none
 abbrev pub IsFit : Call → (roll : List ℕ) → (newest : Option Record) → Type 0
 IsFit Show roll newest = Unit {0}
 IsFit File roll newest = (length roll < stream_limit) × IsOneTaxi roll newest
+IsFit Rows roll newest = length roll < stream_limit

@@ -1,15 +1,16 @@
 -- Rules: what status and what last line belong to each end of the program.
 use Rattle.std.specs.Prelude.{[], ℕ, ◌++◌, List, codes, decimal}
-use Rattle.log_commands.specs.Common.{BadLog, BadWords, BoardFault, BrokenLog, Ended, FileEnd, Filed, OtherTaxi}
+use Rattle.log_commands.specs.Common.{BadLog, BadWords, BoardFault, BrokenLog, Ended, FileEnd, Filed, Listed, OtherTaxi}
 use Rattle.log_commands.specs.{Common.{ReadFault, Shown, TooLong}, declared.finding.FindFault.{FindFault}}
 use Rattle.log_commands.specs.declared.file_roll.FileEnd.TheVariants as ends
 use Rattle.log_commands.specs.declared.finding.FindFault.TheVariants as faults
 
--- the status of an end of the program is 0 if receipts were filed or the log was shown, and another number for each
--- other end
+-- the status of an end of the program is 0 if receipts were filed or listed or the log was shown, and another number
+-- for each other end
 abbrev pub status_of : Ended → ℕ
 status_of (Filed count) = 0
 status_of Shown = 0
+status_of Listed = 0
 status_of BadWords = 1
 status_of (BadLog slot) = 2
 status_of BrokenLog = 3
@@ -23,10 +24,11 @@ abbrev pub numbered : List ℕ → ℕ → List ℕ
 numbered word number = word ++ (decimal number ++ codes "\n")
 
 -- the last line of an end of the program says in words and numbers how the call ended, and is empty if the log was
--- shown or the board failed
+-- shown, the receipts were listed or the board failed
 abbrev pub line_of : Ended → List ℕ
 line_of (Filed count) = numbered (codes "FILED ") count
 line_of Shown = []
+line_of Listed = []
 line_of BadWords = codes "BAD WORDS\n"
 line_of (BadLog slot) = numbered (codes "BAD LOG ") slot
 line_of BrokenLog = codes "BROKEN LOG\n"

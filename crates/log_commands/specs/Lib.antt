@@ -6,6 +6,7 @@ pub mod Endings
 pub mod Filed
 pub mod FilingEnds
 pub mod Filings
+pub mod ListedRows
 pub mod LogList
 pub mod LogRow
 pub mod LogScan
@@ -13,6 +14,7 @@ pub mod Reading
 pub mod ReceiptSearch
 pub mod Record
 pub mod Roll
+pub mod RowsCalls
 pub mod ShownLog
 pub mod Slots
 pub mod Unread

@@ -11,6 +11,8 @@ pub(crate) enum Ended {
     Filed(u64),
     /// The log was shown whole.
     Shown,
+    /// The roll was read to its end, and its receipts were printed as rows.
+    Listed,
     /// The words are no command.
     BadWords,
     /// This slot, the lowest such, is open, and holds no record of its own.
@@ -34,6 +36,7 @@ pub(crate) fn status(ended: Ended) -> u8
     match ended {
         Ended::Filed(_) => 0,
         Ended::Shown => 0,
+        Ended::Listed => 0,
         Ended::BadWords => 1,
         Ended::BadLog(_) => 2,
         Ended::BrokenLog => 3,
@@ -73,6 +76,7 @@ pub(crate) fn last_line(ended: Ended) -> Line
     match ended {
         Ended::Filed(count) => numbered(b"FILED ", count),
         Ended::Shown => Line::new(),
+        Ended::Listed => Line::new(),
         Ended::BadWords => alone(b"BAD WORDS\n"),
         Ended::BadLog(slot) => numbered(b"BAD LOG ", slot as u64),
         Ended::BrokenLog => alone(b"BROKEN LOG\n"),

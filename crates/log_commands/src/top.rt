@@ -1,14 +1,17 @@
 //! The top call: words in, a status out.
-ghost use Rattle.std.specs.Prelude.{[], ℕ, ◌+◌, ◌≡◌, ◌≢◌, ◌≤◌, ◌⊎◌, List, Some, false, length, map, string_bytes, true};
+ghost use Rattle.std.specs.Prelude.{[], ℕ, ◌+◌, ◌<◌, ◌≡◌, ◌≢◌, ◌≤◌, ◌⊎◌, List, Some, false, length, map, string_bytes};
+ghost use Rattle.{std.specs.Prelude.{true}, log_commands.specs.Endings.{filing_end, line_of, status_of, unread_end}};
 ghost use Rattle.log_commands.specs.{BeforeLastLine.{CallReachesLine, IsTold}, Slots.{IsClosed, IsOpen, slot_of}};
 ghost use Rattle.log_commands.specs.Calls.{AppendsNothing, AreFew, IsCall, IsFit, LeavesLogUnwritten, MayHave};
-ghost use Rattle.log_commands.specs.{Calls.{MayHaveReadFault, WritesNothing, known_of}, LogList.{EndsWith, StandsFor}};
-ghost use Rattle.log_commands.specs.{Common.{KeepsStore, MayRise, RisesOnlyIf, Rose}, Record.{Record}, Words.{call_of}};
-ghost use Rattle.log_commands.specs.{Endings.{filing_end, line_of, status_of, unread_end}, FilingEnds.{newest_of}};
+ghost use Rattle.log_commands.specs.{Calls.{MayHaveReadFault, TakesNothing, WritesNothing, known_of}, Record.{Record}};
+ghost use Rattle.log_commands.specs.{Common.{KeepsStore, MayRise, RisesOnlyIf, Rose, stream_limit}, Words.{call_of}};
+ghost use Rattle.log_commands.specs.{FilingEnds.{newest_of}, ListedRows.{RowsReachLine}, LogList.{EndsWith, StandsFor}};
+ghost use Rattle.log_commands.specs.RowsCalls.{IsRowsCall};
 
 use crate::ending::{Ended, last_line, status};
 use crate::file_roll::{FileEnd, file_roll};
 use crate::finding::{FindFault, find_tail};
+use crate::list_rows::list_rows;
 use crate::scanning::SLOTS;
 use crate::show::show_records;
 use crate::tail::Tail;
@@ -55,7 +58,7 @@ fn file<F: Files, G: Board<LOG_SIZE, L>, L: Ledger>(
     ensures has { MayHave (Some Call.File) (status_of result) }
     ensures looks { WritesNothing (Some Call.File) (status_of result)
         → LeavesLogUnwritten G.Printer log.old log.new (status_of result) }
-    ensures untaken { WritesNothing (Some Call.File) (status_of result) → files.new ≡ files.old }
+    ensures untaken { TakesNothing (Some Call.File) (status_of result) → files.new ≡ files.old }
     ensures others { (word : ℕ) → word ≢ 1 → F.rest files.new word ≡ F.rest files.old word }
 {
     let mut tail = match find_tail(log, steps) {
@@ -115,6 +118,8 @@ fn carry_out<F: Files, G: Board<LOG_SIZE, L>, L: Ledger>(
 ) -> Ended
     ensures comes { known_of call F.tells G.tells_image → CallReachesLine F.Files G.Printer call
         files.old files.new log.old log.new steps.old steps.new result }
+    ensures rows { F.tells → call ≡ Some Call.Rows → RowsReachLine F.Files G.Printer
+        files.old files.new log.old log.new result steps.old steps.new × KeepsStore G.Printer log.old log.new }
     ensures read_fault { result ≡ Ended.ReadFault → Rose (F.faults files.old 1) (F.faults files.new 1) }
     ensures reads { (word : ℕ) → MayRise (MayHaveReadFault (status_of result))
         (F.faults files.old word) (F.faults files.new word) }
@@ -122,13 +127,14 @@ fn carry_out<F: Files, G: Board<LOG_SIZE, L>, L: Ledger>(
     ensures has { MayHave call (status_of result) }
     ensures looks { WritesNothing call (status_of result)
         → LeavesLogUnwritten G.Printer log.old log.new (status_of result) }
-    ensures untaken { WritesNothing call (status_of result) → files.new ≡ files.old }
+    ensures untaken { TakesNothing call (status_of result) → files.new ≡ files.old }
     ensures others { (word : ℕ) → word ≢ 1 → F.rest files.new word ≡ F.rest files.old word }
     ensures steps { AreFew call steps.old (steps.new + 1) }
 {
     match call {
         Some(Call::File) => file(files, log, steps),
         Some(Call::Show) => show::<F, G, L>(log, steps),
+        Some(Call::Rows) => list_rows(files, log, steps),
         None => Ended::BadWords,
     }
 }
@@ -158,21 +164,22 @@ fn finish<G: Board<LOG_SIZE, L>, L: Ledger>(ended: Ended, log: &mut G, steps: &m
 /// |---|---|
 /// | `file ROLL` | `FILED n`: n of the roll's receipts were appended to the log |
 /// | `show` | the texts of the log's receipts, the oldest first |
+/// | `rows ROLL` | a heading, and the roll's receipts as rows of CSV, in its order |
 ///
 /// | Status | Last line | When |
 /// |---|---|---|
-/// | 0 | as above | the roll was read to its end, or the log was shown whole |
+/// | 0 | as above, none of `show` and `rows` | the roll was read to its end, or the log was shown whole |
 /// | 1 | `BAD WORDS` | exactly: the words are no command |
 /// | 2 | `BAD LOG s` | exactly: slot s is the lowest that is open and holds no record of its own |
 /// | 3 | `BROKEN LOG` | exactly: no slot is bad, and the log stands for no list of receipts |
 /// | 4 | `OTHER TAXI j` | exactly: the roll's receipt j is the first of another taxi; those before it are filed |
 /// | 5 | `ROLL TOO LONG` | exactly: 2^40 bytes of the roll were taken, and its end wasn't seen; but 4 comes first |
-/// | 7 | `READ FAULT` | only if the roll's count of faults rose; what was taken is filed |
+/// | 7 | `READ FAULT` | only if the roll's count of faults rose; what was taken is filed or listed |
 /// | 8 | none | exactly: the board's count of faults rose |
 ///
 /// The words are looked at before the log, and the log before the roll. If any receipt in 2^40 bytes of the roll is of
-/// another taxi, the status is 4, even if a read behind the bytes taken failed. The words, the statuses and the lines
-/// are this project's own.
+/// another taxi, the status of `file` is 4, even if a read behind the bytes taken failed. `rows` reads no log, and its
+/// heading comes with the first reading that succeeds. The words, the statuses and the lines are this project's own.
 pub fn keep_log<F: Files, G: Board<LOG_SIZE, L>, L: Ledger>(
     words: &[String],
     files: &mut F,
@@ -186,6 +193,11 @@ pub fn keep_log<F: Files, G: Board<LOG_SIZE, L>, L: Ledger>(
         → IsCall F.Files G.Printer (call_of (map string_bytes words.now))
         files.old files.new log.old log.new steps.old steps.new result }
 
+    // `rows` lists the receipts of the bytes taken in their order, ends as the roll does, and leaves the log alone. If
+    // the board fails, a beginning of that is printed.
+    ensures rows { F.tells → call_of (map string_bytes words.now) ≡ Some Call.Rows
+        → IsRowsCall F.Files G.Printer files.old files.new log.old log.new steps.old steps.new result }
+
     // After status 0, 4 or 5 filing the roll again appends nothing, however much of it is read then.
     ensures again { F.tells → G.tells_image → call_of (map string_bytes words.now) ≡ Some Call.File
         → (result ≡ 0) ⊎ ((result ≡ 4) ⊎ (result ≡ 5)) → AppendsNothing (G.image log.new) (F.rest files.old 1) }
@@ -197,6 +209,12 @@ pub fn keep_log<F: Files, G: Board<LOG_SIZE, L>, L: Ledger>(
         → ¬ Rose (F.faults files.old 1) (F.faults files.new 1) → ¬ Rose (G.faults log.old) (G.faults log.new)
         → result ≡ 0 }
 
+    // A roll of fewer than 2^40 bytes and no fault give 0.
+    ensures complete_rows { F.tells → call_of (map string_bytes words.now) ≡ Some Call.Rows
+        → length (F.rest files.old 1) < stream_limit
+        → ¬ Rose (F.faults files.old 1) (F.faults files.new 1) → ¬ Rose (G.faults log.old) (G.faults log.new)
+        → result ≡ 0 }
+
     // Each status is one of the command's, whatever is told. The board's count of faults rose by one at 8, and else
     // stayed. That of the roll rose by one at 7. No word's rose at a status but 4, 7 and 8, and none by more than one.
     ensures has { MayHave (call_of (map string_bytes words.now)) result }
@@ -205,14 +223,15 @@ pub fn keep_log<F: Files, G: Board<LOG_SIZE, L>, L: Ledger>(
         → MayRise (MayHaveReadFault result) (F.faults files.old word) (F.faults files.new word) }
     ensures board_fault { RisesOnlyIf (result ≡ 8) (G.faults log.old) (G.faults log.new) }
 
-    // `show` and a call with refused words or a refused log write nothing, and take nothing of the roll.
+    // `show`, `rows` and a call with refused words or a refused log write nothing, and all but `rows` take nothing of
+    // the roll.
     ensures looks { WritesNothing (call_of (map string_bytes words.now)) result
         → LeavesLogUnwritten G.Printer log.old log.new result }
-    ensures untaken { WritesNothing (call_of (map string_bytes words.now)) result → files.new ≡ files.old }
+    ensures untaken { TakesNothing (call_of (map string_bytes words.now)) result → files.new ≡ files.old }
     ensures others { (word : ℕ) → word ≢ 1 → F.rest files.new word ≡ F.rest files.old word }
 
     // `show` takes at most 771 steps, and refused words take 1. `call` bounds the steps of `file`, over files and a log
-    // that tell.
+    // that tell, and `rows` those of `rows`.
     ensures steps { AreFew (call_of (map string_bytes words.now)) steps.old steps.new }
 {
     let ended = carry_out(call_in(words), files, log, steps);

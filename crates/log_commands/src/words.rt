@@ -12,6 +12,8 @@ pub enum Call {
     File,
     /// `show`
     Show,
+    /// `rows ROLL`
+    Rows,
 }
 
 /// The command of one word.
@@ -31,6 +33,8 @@ fn two_words(command: &[u8]) -> Option<Call>
 {
     if is_word(command, b"file") {
         Some(Call::File)
+    } else if is_word(command, b"rows") {
+        Some(Call::Rows)
     } else {
         None
     }

@@ -6,3 +6,4 @@ pub(crate) mod growth_tests;
 pub(crate) mod keep_log_tests;
 pub(crate) mod memory_log;
 pub(crate) mod receipt_tests;
+pub(crate) mod rows_tests;

@@ -4,10 +4,10 @@ import hashlib
 import itertools
 
 from heglorwy.explained import explained
-from heglorwy.filed import filed_in
 from heglorwy.meter import hirings_of
 from heglorwy.program import Differs, Refused
 from heglorwy.account.walk import Walk
+from heglorwy.roll import receipts_of
 
 # What a receipt says of the meter, and what that is called.
 OF_METER = {"taxi": "taxi", "constant": "constant", "secured": "date of securing"}
@@ -31,7 +31,7 @@ def fields_of(lines):
     words = {line[0]: line[1:] for line in lines}
     initial, _, steps, _, step = words["CALC"]
     return {"kind": words["HIRING"][1], "start": " ".join(words["START"]), "finish": " ".join(words["FINISH"]),
-            "position": int(words["POSITION"][0]), "distance_m": words["DISTANCE"][0], "initial": initial, "steps": int(steps),
+            "position": int(words["POSITION"][0]), "distance": words["DISTANCE"][0], "initial": initial, "steps": int(steps),
             "step": step, **{name: words[name.upper()][0] for name in ("fare", "supplements", "total")}}
 
 
@@ -48,7 +48,7 @@ def unlike(asked, meter, receipt):
 def place_of(asked, meter, told):
     """The number of the hiring, from 1, of which the roll that was asked for has the receipt. A roll may have receipts of
     one number and with other texts; then one of them has to be a hiring's."""
-    receipts = [one.fields for one in filed_in([asked.roll]) if one.fields["receipt"] == asked.receipt]
+    receipts = [one.fields for one in receipts_of([asked.roll]) if one.fields["receipt"] == asked.receipt]
     if not receipts:
         raise Refused(1, f"{asked.roll} has no receipt {asked.receipt}")
     alike, why = [], "none has its start, finish, distance, calculation and total"

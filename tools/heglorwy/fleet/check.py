@@ -4,10 +4,10 @@ import datetime
 import os
 from decimal import Decimal
 
-from heglorwy.filed import filed_in
 from heglorwy.fleet.marks import BEGUN, DONE, OPENING_TOTALS, ROLL, is_at_work, last_done
 from heglorwy.fleet.stores import asked_of, sealed_in, there, totals_in
 from heglorwy.program import Differs, Refused, read
+from heglorwy.roll import receipts_of
 from heglorwy.roll_order import disorder_in
 
 LASTS = 400  # days: `bin/taxi` warns of offsets of which the last begins sooner
@@ -32,10 +32,10 @@ def opening_of(folder):
         raise Refused(7, f"{OPENING_TOTALS} is no text of totals") from None
 
 
-def receipts_of(folder):
-    """The receipts of the roll, of which `hiring_log` files those whose numbers rise."""
+def receipts_at(folder):
+    """The receipts of a taxi's roll."""
     roll = os.path.join(folder, ROLL)
-    return filed_in([roll]) if os.path.exists(roll) else []
+    return receipts_of([roll]) if os.path.exists(roll) else []
 
 
 def put_back(totals, receipts, row, done):
@@ -83,7 +83,7 @@ def of_seal(sealed, asked):
 def compared(folder, asked):
     """The columns of a taxi, and what is to be seen to."""
     sealed, totals = sealed_in(asked_of(folder, "sealed")), totals_in(asked_of(folder, "totals"))
-    opening, receipts = opening_of(folder), receipts_of(folder)
+    opening, receipts = opening_of(folder), receipts_at(folder)
     row = {name: Decimal(totals[name]) - opening[name] for name in GROWING} | {"receipts": len(receipts)}
     for name in ("fare", "supplements"):
         row[f"receipts_{name}"] = sum((Decimal(receipt.fields[name]) for receipt in receipts), Decimal(0))

@@ -2,16 +2,16 @@
 
 import os
 
-from heglorwy.filed import filed_in
 from heglorwy.fleet.marks import ROLL
 from heglorwy.program import Refused
+from heglorwy.roll import receipts_of
 from heglorwy.roll_order import disorder_in
 
 
-def receipts_of(folder):
+def receipts_at(folder):
     """The rows of the receipts of a taxi's roll, and a line for each thing in which they aren't in order."""
     if not os.path.isdir(folder):
         raise Refused(7, "there is no such folder")
     roll = os.path.join(folder, ROLL)
-    receipts = filed_in([roll]) if os.path.exists(roll) else []
+    receipts = receipts_of([roll]) if os.path.exists(roll) else []
     return [receipt.fields for receipt in receipts], list(disorder_in(receipts))

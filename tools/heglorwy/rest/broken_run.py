@@ -13,10 +13,10 @@ import re
 from heglorwy.rest.drive_places import Places
 from heglorwy.rest.left_drive import number_for, with_number
 from heglorwy.program import Differs, Refused, called, read
-from heglorwy.roll import receipts_in
 from heglorwy.rest.totals_slot import Totals, seals_in
 
 LAST = 10**15  # a store of this NUMBER takes no hiring
+RECEIPT = re.compile(rb"(?ms)^RECEIPT (\d+)$.*?^END\n")  # as a run prints it that isn't cut
 TOO_MANY = b"P 65535\n"  # more pulses than an interval takes
 
 # A run: the tariff, the opening store, the store as it is, the drive, and what was printed, each as bytes.
@@ -138,9 +138,9 @@ def cut_off(search, store, commits):
 
 def state_of(receipt, printed):
     """What became of a receipt, where so many bytes were printed."""
-    if receipt.place + len(receipt.text) <= printed:
+    if receipt.end() <= printed:
         return "whole"
-    return "torn" if receipt.place < printed else "missing"
+    return "torn" if receipt.start() < printed else "missing"
 
 
 def left_of(run, taxi):
@@ -153,11 +153,11 @@ def left_of(run, taxi):
     commits = store.totals.number - opening.totals.number
     drive, line = cut_off(search, store, commits)
     check_roll(search, whole, run.printed, commits)
-    receipts = list(receipts_in(whole))
-    numbers = [receipt.fields["receipt"] for receipt in receipts]
+    receipts = list(RECEIPT.finditer(whole))
+    numbers = [int(receipt[1]) for receipt in receipts]
     done = bisect.bisect_right(numbers, store.totals.number)
     printed, came = store.run(drive)
-    if came.slot != wanted.slot or [each.text for each in receipts_in(printed)] != [each.text for each in receipts[done:]]:
+    if came.slot != wanted.slot or [each[0] for each in RECEIPT.finditer(printed)] != [each[0] for each in receipts[done:]]:
         raise Differs("what is left doesn't come to what the whole drive comes to")
     return Left(drive, commits, [(each, state_of(each, len(run.printed))) for each in receipts[:done]], line)
 

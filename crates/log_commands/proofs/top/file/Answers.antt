@@ -1,11 +1,12 @@
 use Rattle.std.{specs.Prelude.{is_err}, proofs.Common.{◌∙◌, Err, Ok, Some, ap, inr, refl, rules, subst, sym}}
-use Rattle.log_commands.{specs.BeforeLastLine.{CallReachesLine}, proofs.EndCases.{unread_no_read, unread_sync}}
+use Rattle.log_commands.specs.{BeforeLastLine.{CallReachesLine}, Endings.{status_of, unread_end}}
 use Rattle.log_commands.specs.{Common.{Ended, File, IsAsHeld, Rose}, declared.finding.FindFault.TheVariants.{LogFault}}
-use Rattle.log_commands.{specs.Endings.{status_of, unread_end}, proofs.LastLines.{search_read}}
 use Rattle.log_commands.proofs.{CallEnds.{reaches_end, reaches_failed, reaches_unread}, NewestFound.{same_fault}}
 use Rattle.log_commands.proofs.Causes.{may_none, may_rise_for, rises_for, rises_ok, rose_later}
-use Rattle.log_commands.proofs.EndCases.{fault_has, fault_writes, filing_files, filing_no_board, filing_read}
-use Rattle.log_commands.proofs.EndCases.{filing_reads, filing_writes, found_sync, unread_board, unread_files}
+use Rattle.log_commands.proofs.EndCases.{fault_has, fault_takes, fault_writes, filing_files, filing_no_board}
+use Rattle.log_commands.proofs.EndCases.{filing_read, filing_reads, filing_takes, filing_writes, found_sync}
+use Rattle.log_commands.proofs.EndCases.{unread_board, unread_files, unread_no_read, unread_sync}
+use Rattle.log_commands.proofs.LastLines.{search_read}
 use Rattle.log_commands.proofs.top.file.Given as given
 use Rattle.log_commands.proofs.top.file.Goals as goal
 
@@ -72,9 +73,9 @@ returns-in-Ok-file_roll g c = record {
   looks = λ writes. absurd
       (filing_writes c.in-Ok-file_roll.end (status_of c.ended_filing.result)
       (ap status_of c.ended_filing.ensures) writes);
-  untaken = λ writes. absurd
-      (filing_writes c.in-Ok-file_roll.end (status_of c.ended_filing.result)
-      (ap status_of c.ended_filing.ensures) writes);
+  untaken = λ takes. absurd
+      (filing_takes c.in-Ok-file_roll.end (status_of c.ended_filing.result)
+      (ap status_of c.ended_filing.ensures) takes);
   others = search rules;
 }
 
@@ -104,7 +105,7 @@ returns-in-Err-file_roll g c = record {
   board_fault = record { kept = λ no. absurd (no refl); rose = λ _. failed g c };
   has = fault_has (Some File) 8 refl;
   looks = λ writes. absurd (fault_writes writes);
-  untaken = λ writes. absurd (fault_writes writes);
+  untaken = λ takes. absurd (fault_takes takes);
   others = search rules;
 }
 

@@ -1,8 +1,9 @@
-use Rattle.std.proofs.Common.{◌+◌, ◌≡◌, Option, map, rules, string_bytes, subst}
-use Rattle.log_commands.specs.{Calls.{IsCall, WritesNothing, known_of}, Common.{Call, RisesOnlyIf}, Endings.{status_of}}
-use Rattle.log_commands.{specs.Words.{call_of}, proofs.Causes.{may_rise_for}}
-use Rattle.log_commands.proofs.{EndCases.{few_are_fewer}, LastLines.{reads_finished, search_told, writes_before}}
+use Rattle.std.proofs.Common.{◌+◌, ◌∙◌, ◌≡◌, Option, Some, map, rules, string_bytes, subst}
+use Rattle.log_commands.specs.{Calls.{IsCall, TakesNothing, WritesNothing, known_of}, Common.{Call, RisesOnlyIf, Rows}}
+use Rattle.log_commands.specs.{Endings.{status_of}, RowsCalls.{IsRowsCall}, Words.{call_of}}
+use Rattle.log_commands.proofs.{Causes.{may_rise_for}, EndCases.{few_are_fewer}, RowsEnds.{rows_told, rows_whole}}
 use Rattle.log_commands.proofs.LastLines.{call_again, call_told, call_whole, fault_finished, has_finished}
+use Rattle.log_commands.proofs.LastLines.{reads_finished, search_told, takes_before, writes_before}
 use Rattle.log_commands.proofs.top.keep_log.Given as given
 use Rattle.log_commands.proofs.top.keep_log.Goals as goal
 
@@ -39,9 +40,34 @@ writes g c nothing =
     (writes_before g.G.Printer (call_of (map string_bytes c.args.words.now)) c.carry_out-ended.result
     c.carry_out-ended.new.log c.finish.new.log c.finish.result c.finish.ensures.told nothing)
 
+-- what is taken of the roll is taken before the last line
+takes : (g : given.Over) (c : goal.After-finish g)
+    → TakesNothing (call_of (map string_bytes c.args.words.now)) c.finish.result
+    → TakesNothing c.call_in.result (status_of c.carry_out-ended.result)
+takes g c nothing =
+    rw c.call_in.ensures
+    (takes_before g.G.Printer (call_of (map string_bytes c.args.words.now)) c.carry_out-ended.result
+    c.carry_out-ended.new.log c.finish.new.log c.finish.result c.finish.ensures.told nothing)
+
+-- a call of `rows` is what its roll comes to, with its last line
+is_rows : (g : given.Over) (c : goal.After-finish g) → g.F.Files.tells
+    → call_of (map string_bytes c.args.words.now) ≡ Some Rows
+    → IsRowsCall g.F.Files g.G.Printer c.args.files.now c.carry_out-ended.new.files c.args.log.now c.finish.new.log
+    c.args.steps.now c.finish.new.steps c.finish.result
+is_rows g c told is =
+    let reaches = c.carry_out-ended.ensures.rows told (c.call_in.ensures ∙ is) in
+    rows_told g.F.Files g.G.Printer c.args.files.now c.carry_out-ended.new.files c.args.log.now
+    c.carry_out-ended.new.log c.finish.new.log c.args.steps.now c.carry_out-ended.new.steps c.finish.new.steps
+    c.carry_out-ended.result c.finish.result reaches.0 reaches.1 c.finish.ensures.keeps c.finish.ensures.told
+    c.finish.ensures.silent (board_fault g c) c.finish.ensures.steps
+
 pub returns : goal.returns
 returns g c = record {
   call = λ known. is_call g c known;
+  rows = is_rows g c;
+  complete_rows = λ told is small read board.
+      rows_whole g.F.Files g.G.Printer c.args.files.now c.carry_out-ended.new.files c.args.log.now c.finish.new.log
+      c.args.steps.now c.finish.new.steps c.finish.result (is_rows g c told is) small read board;
   again = λ files_told told file good.
       call_again g.F.Files g.G.Printer c.args.files.now c.carry_out-ended.new.files c.args.log.now c.finish.new.log
       c.finish.result (call_of (map string_bytes c.args.words.now)) c.args.steps.now c.finish.new.steps
@@ -64,7 +90,7 @@ returns g c = record {
       c.carry_out-ended.result c.finish.result
       (g.met.G.Printer.only_now c.carry_out-ended.new.log) (c.carry_out-ended.ensures.looks (writes g c nothing))
       c.finish.ensures.keeps c.finish.ensures.told;
-  untaken = λ nothing. c.carry_out-ended.ensures.untaken (writes g c nothing);
+  untaken = λ nothing. c.carry_out-ended.ensures.untaken (takes g c nothing);
   others = search rules;
   steps = few_are_fewer (call_of (map string_bytes c.args.words.now)) c.args.steps.now (c.carry_out-ended.new.steps + 1)
       c.finish.new.steps (rw (← c.call_in.ensures) c.carry_out-ended.ensures.steps) c.finish.ensures.steps;
