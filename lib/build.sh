@@ -150,37 +150,3 @@ version() {
   echo "store: $(layouts)"
   echo "pages: $top/docs"
 }
-
-# Answers from the same code, built at once and not proved, and ends.
-answer_now() {
-  local log status named file place watcher words=("$@")
-  [[ " $without_store " == *" $1 "* ]] || { say "--now is for the commands without a store: $without_store"; exit 1; }
-  ! leads_to_store 1 || { say "status 8: the output is $kept itself; print to another file"; exit 8; }
-  has_kit || exit 125
-  # The program runs in another folder, so the files go by their whole names.
-  name_files "$@"
-  for file in "${named[@]}"; do
-    for place in "${!words[@]}"; do
-      [ "$place" -eq 0 ] || [ "${words[place]}" != "$file" ] || [[ $file == /* ]] || words[place]=$PWD/$file
-    done
-    [ ! -e "$file" ] || [ -f "$file" ] ||
-      { say "--now reads plain files alone, and $(shown_name "$file") is none"; exit 125; }
-  done
-  log=$(mktemp) || exit 125
-  [ ! -t 2 ] || say 'building without a proof; this takes half a minute to a minute'
-  (waited=''; while sleep 1 && kill -0 $$ 2>/dev/null; do say_wait "$log" "$program_crate"; done) >/dev/null &
-  watcher=$!
-  (cd "$top/crates/$program_crate" && exec rt try -- "${words[@]}") </dev/null 2>"$log"
-  { kill $watcher && wait $watcher; } 2>/dev/null
-  status=$(sed -n 's/^run=ended status=\([0-9]*\) .*proved=no$/\1/p' "$log" | tail -n 1)
-  if [ -z "$status" ]; then
-    tail -n 20 "$log" >&2
-    say "nothing was answered; the whole output is in $log"
-    exit 125
-  fi
-  rm -f "$log"
-  say 'nothing is proved of this answer: it is of the same code, built at once'
-  [ "$status" -eq 0 ] || say "status $status: $(meaning_of "$status" "$@")"
-  [ "$status" -ne 7 ] || say_unreadable "$@"
-  exit "$status"
-}

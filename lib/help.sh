@@ -26,7 +26,7 @@ help() {
   printf "  %-$((width + ${#name} + 1))s %s\n" '-C FOLDER' 'goes to that folder first'
   # What is installed is proved, and has no kit.
   is_installed || [ -z "$without_store" ] ||
-    printf "  %-$((width + ${#name} + 1))s %s\n" --now 'answers at once by a program that is not proved, without a store'
+    printf "  %-$((width + ${#name} + 1))s %s\n" --now 'answers by a program that is not proved, built once in a minute or two; without a store'
   echo "$page says more.$(! is_installed || echo " docs/ and examples/ lie in $top.")"
 }
 

@@ -26,7 +26,7 @@ say() { echo "$name: $1" >&2; }
 # Whether what is said behind a call that ended with 0 is left out.
 is_quiet() { [ "${TAXI_QUIET-}" = 1 ]; }
 
-for part in help words where seen build lanes; do . "$top/lib/$part.sh" || exit 125; done
+for part in help words where seen build now lanes; do . "$top/lib/$part.sh" || exit 125; done
 
 # Takes what stands before the command, and sets `given` to the words of the command.
 take_options() {

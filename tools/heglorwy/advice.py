@@ -2,11 +2,11 @@
 
 import datetime
 import os
-import re
 
+from heglorwy import odd_figures
+from heglorwy.brackets import brackets
 from heglorwy.program import Differs
 from heglorwy.tables import tables_of
-from heglorwy.tariff import lines_in
 from heglorwy.tariff_parts import atoms_in, atoms_of, of_kind
 
 NEVER = "never: a meter comes to no position, zone, day, minute, distance and time at which it is the first that holds"
@@ -14,7 +14,6 @@ MINIMUM = "minimum: this minimum fare never shows: each hire fee beside which it
 UNASKED = "unused: no condition asks for a {0}, so all {0}s have the same fare"
 NO_HOLIDAY = "unused: no condition asks for `holiday`, so this date is as any other"
 PAST = "past: {0} of the holidays are past, this one the latest"
-BRACKETS = "brackets: `and` binds tighter than `or`, so this reads `{0} or ({1} and ..)`; say by brackets what is meant"
 MIDNIGHT = (
     "midnight: a day, a date and `holiday` are asked of the calendar day, so behind midnight this holds on the morning of "
     "that same day; the night that begins on a Friday is day fri and time 22:00..00:00 or day sat and time 00:00..06:00"
@@ -88,32 +87,6 @@ def crosses_midnight(condition):
     return has_day and over or any(crosses_midnight(part) for part in parts)
 
 
-def without_brackets(line):
-    """The `and` of a line that stands beside an `or` within the same brackets, with what stands before both: its place."""
-    open_or = [None]  # of each level of brackets where an `or` stands, None before it
-    for found in re.finditer(r"[a-z]+|[()]", line):
-        if found[0] == "(":
-            open_or.append(None)
-        elif found[0] == ")":
-            open_or.pop()
-        elif found[0] == "or":
-            open_or[-1] = found.start()
-        elif found[0] == "and" and open_or[-1] is not None:
-            return found
-    return None
-
-
-def brackets(text, line):
-    """An `and` behind an `or` without brackets: its place, and how it reads."""
-    said = lines_in(text)[line.number - 1].partition(b"#")[0].decode("latin-1")
-    place = without_brackets(said)
-    if not place:
-        return None
-    level = said[: place.start()].rpartition(" or ")
-    left = re.split(r"\bwhen\b|\(", level[0])[-1].strip()
-    return line.number, BRACKETS.format(left, level[2].strip()), place.start(), len(place[0])
-
-
 def of_tariff(taxi, text, constant):
     """What may not be meant in a sound tariff: line, words, and place and width where a part of the line is marked."""
     tables = tables_of(taxi, text, constant)
@@ -123,4 +96,5 @@ def of_tariff(taxi, text, constant):
     found += past_holidays(tables.lines, today())
     found += [(line.number, MIDNIGHT) for line in tables.lines if crosses_midnight(line.when)]
     found += filter(None, (brackets(text, line) for line in tables.lines if line.when))
-    return sorted(found)
+    found += odd_figures.of_tariff(taxi, text, tables, constant)
+    return sorted(set(found))

@@ -25,6 +25,7 @@ WORDS = [
 ]  # fmt: skip
 DAY = f"(?:{'|'.join(DAYS)})"
 DASH = r"(?:-|\xe2\x80[\x93\x94]|\bto\b|\btill?\b|\buntil\b)"
+BOUND = r"\b(?:up\s*to|until|till?|below|under|over|above|from|beyond)"
 TWO_DOTS = "a range is written with two dots, as {}"
 JOINED = "days of a list are joined by `or`, as day sat or day sun"
 METRES = "distances are in metres, as {}"
@@ -32,11 +33,19 @@ SECONDS = "times are in seconds, as {}"
 # Each guess: the pattern whose group is meant (or all of it, if it has none), and what to write instead.
 GUESSES = [
     (r"^\xef\xbb\xbf", "a byte order mark stands before the text: save it as UTF-8 without one"),
+    (rf'^\s*"?(?i:{"|".join(KINDS)}|decimals)"?\s*([;,])|^\s*(")|([;,])[\s;,]*$',
+    "this is a table of a spreadsheet: words are parted by blanks, and a rate alone has a comma, between its halves"),
     (r"\xc2\xa0|\xe2\x80[\xaf\x89]", "this blank is none of a tariff's; a space is"),
     (r"(?i)\b(?:speed|faster|slower|km/h|kmh|kph|mph|m/s)\b",
     "no condition asks for a speed: the meter finds by itself whether the distance or the time is charged"),
     (r"(?:\bwhen\b|\band\b|\bor\b|\bnot\b|\()\s*(holiday\s+[0-9][0-9-]*)",
     "in a condition stands `holiday` alone; a date is a line `holiday 2026-12-25` of its own, or date 12-25..12-25"),
+    (r"//|/\*|^\s*(--|'|;)", "a comment begins with #"),
+    (r"^\s*holiday\s+[0-9-]+\s*(\.\.)", "each holiday has a line of its own"),
+    (r"\bdate\s+([0-9]{4}-[0-9-]+(?:\s*\.\.\s*[0-9-]+)?)",
+    "dates of a condition are of each year, as 12-24..01-01; days of one year are lines of their own, as holiday 2026-12-24"),
+    (rf"\b[0-9.]+\s*(?:m\s*)?\.\.\s*[0-9.]+\s*[ms]\b|(?i:{BOUND}\s+[0-9.,]+\s*k?(?:m|s)\b)",
+    "distances and times of a trip are asked by `after`, as after 4000.0 m and not after 8000.0 m"),
     (r"[0-9](,)[0-9]{3}\.[0-9]|[0-9](')[0-9]|[0-9]( )[0-9]{3}(?:\.[0-9])?\s*(?:m|s)\b",
     "figures are written without marks between thousands"),
     (r"\b[0-9]{1,2}[./][0-9]{1,2}[./][0-9]{2,4}\b|\b[0-9]{4}[./][0-9]{1,2}[./][0-9]{1,2}\b",
@@ -100,9 +109,14 @@ def with_capitals(line):
 def misspelt(line):
     """Words that are none of a tariff's, with the one that is nearest."""
     for found in re.finditer(r"[A-Za-z_]+", line):
-        near = difflib.get_close_matches(found[0].lower(), WORDS, 1, 0.6) if found[0].lower() not in WORDS else []
+        near = nearest_word(found[0].lower(), WORDS) if found[0].lower() not in WORDS else None
         if near and len(found[0]) > 2:
-            yield Guess(found.start(), len(found[0]), f"`{shown(found[0])}` is no word of a tariff; is `{near[0]}` meant?")
+            yield Guess(found.start(), len(found[0]), f"`{shown(found[0])}` is no word of a tariff; is `{near}` meant?")
+
+
+def nearest_word(word, words):
+    """The one of some words that is written nearly so, or None."""
+    return next(iter(difflib.get_close_matches(word, words, 1, 0.6)), None)
 
 
 def brackets(line):

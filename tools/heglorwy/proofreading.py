@@ -2,6 +2,7 @@
 
 from heglorwy import advice
 from heglorwy.faults import BROUGHT_BY, faults_of
+from heglorwy.file_kinds import is_wide, no_text
 from heglorwy.guesses import guess
 from heglorwy.program import Refused
 from heglorwy.tariff import lines_in
@@ -33,11 +34,6 @@ def shown(line):
     return "".join(letter if letter.isprintable() or letter == "\t" else "?" for letter in line)
 
 
-def is_wide(text):
-    """Whether a text is UTF-16."""
-    return text[:2] in (b"\xff\xfe", b"\xfe\xff") or len(text) > 3 and text.count(0) > len(text) // 3
-
-
 def without(text, bad):
     """A text in which lines are empty."""
     lines = text.split(b"\n")
@@ -56,6 +52,8 @@ def of_faults(taxi, text):
     """The findings of a text that isn't sound: lines without a form, and then the faults of the others."""
     faults = faults_of(taxi, text)
     bad = [fault.line for fault in faults if fault.name == "Syntax"]
+    if faults and (said := no_text(text, "a tariff")):
+        return [Finding(None, said)]
     if bad and is_wide(text):
         return [Finding(bad[0], "the text is UTF-16: save it as UTF-8, or as plain ASCII", 0, 1)]
     found = [(number, guess(lines_in(text)[number - 1])) for number in bad]
