@@ -1,28 +1,16 @@
 # Completion for taxi and hiring_log in bash. It runs no program; tests/completions compares it with what `help` lists. Names
-# of files are left to the shell's own completion: they come into no `eval` and no `compgen -W`, and only what was typed behind
-# -C is used, as the name of a folder.
+# of files are left to the shell's own completion: they come into no `eval` and no `compgen -W`.
 _taxi() {
-  local at=1 folder= choices= choice ending= current=${COMP_WORDS[COMP_CWORD]} commands='file show rows' faults= options='-C'
+  local choices= choice ending= current=${COMP_WORDS[COMP_CWORD]} commands='file show rows' faults=
   COMPREPLY=()
   if [ "${1##*/}" = taxi ]; then
     commands='check faults form tables rates near lines compare fare seal run bench explain story totals sealed port gen offsets mark shifts'
     faults='TooLong Syntax NoStep StepZero Duplicate TooManyLines UnknownNumber NoDefaultRate NoDefaultInitial
       LineAfterDefault BadDate AmountTooBig MeasureZero NoCommonMeasure TooManyCuts TooManyCells
       Unknown Twice BadValue Missing BadLine SameMonth'
-    options='-C --now'
   fi
-  while [ "$at" -lt "$COMP_CWORD" ]; do
-    case ${COMP_WORDS[at]} in
-      --now) at=$((at + 1)) ;;
-      -C)
-        if [ "$COMP_CWORD" -eq $((at + 1)) ]; then compopt -o dirnames; return; fi
-        folder=${COMP_WORDS[at + 1]} at=$((at + 2))
-        ;;
-      *) break ;;
-    esac
-  done
-  case "$((COMP_CWORD - at)) ${COMP_WORDS[at]}" in
-    '0 -'*) choices="$options -h --help --version" ;;
+  case "$((COMP_CWORD - 1)) ${COMP_WORDS[1]}" in
+    '0 -'*) choices='-h --help --version' ;;
     '0 '*) choices="$commands help version" ;;
     '1 help') choices="$commands $faults" ;;
     '1 mark') choices='on off' ;;
@@ -38,16 +26,9 @@ _taxi() {
   esac
   if [ -n "$ending" ]; then
     # A name of a file: one of the ending, or a folder, or where none has the ending any name.
-    if [ -z "$folder" ]; then
-      # What was typed with quotes is left to the shell.
-      [[ $current != *[!A-Za-z0-9_./+,@%-]* ]] || return
-      mapfile -t COMPREPLY < <(_taxi_files "$ending" "$current")
-    else
-      # The shell quotes no names of another folder, so there only those are offered that need no quotes.
-      while IFS= read -r choice; do
-        [[ $choice == *[!A-Za-z0-9_./+,@%-]* ]] || COMPREPLY+=("$choice")
-      done < <(CDPATH= cd -- "$folder" 2>/dev/null && _taxi_files "$ending" "$current")
-    fi
+    # What was typed with quotes is left to the shell.
+    [[ $current != *[!A-Za-z0-9_./+,@%-]* ]] || return
+    mapfile -t COMPREPLY < <(_taxi_files "$ending" "$current")
     compopt -o filenames
     return
   fi

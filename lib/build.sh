@@ -22,10 +22,9 @@ is_older() {
   [ -n "$(find "${places[@]}" -type f ! -name '*tests.rt' ! -path '*tests/*' -newer "$file" -print -quit 2>/dev/null)" ]
 }
 
-# Makes the program ready: it is, where it is installed; else it is built where that is needed.
+# Makes the program ready: it is built where that is needed.
 make_ready() {
   local crates
-  ! is_installed || return 0
   crates=$(needed_crates)
   # shellcheck disable=SC2086
   { [ -x "$program" ] && ! is_older "$program" $crates; } || build
@@ -121,32 +120,3 @@ build() {
 }
 
 sum_of_program() { sha256sum <"$program" | cut -d' ' -f1; }
-
-# What is written of the program where it was built, or installed.
-built_with() {
-  local record=$program.built
-  ! is_installed || record=$top/INSTALLED
-  sed -n "s/^$1 //p" "$record" 2>/dev/null | cut -d' ' -f1-"${2:-}"
-}
-
-# The layouts that a part of docs/STORE.md has, as `1 or 2`.
-layouts_of() {
-  local found row='^| 511 | layout | \([0-9]*\) |$'
-  found=$(sed -n "/^## The $1\$/,/^## /s/$row/\1/p" "$top/docs/STORE.md" 2>/dev/null | paste -sd ' ')
-  echo "${found:-unknown}" | sed 's/ / or /g'
-}
-
-# What program this is. It builds nothing.
-version() {
-  local sum=''
-  echo "$name $(cat "$top/VERSION" 2>/dev/null || echo unknown)"
-  [ ! -x "$program" ] || sum=$(sum_of_program)
-  if [ -z "$sum" ]; then echo 'program: none is built'
-  elif built_with program 1 | grep -qx "$sum"; then
-    printf 'commit: %s\nprogram: SHA-256 %s\nkit: %s\n' "$(built_with commit)" "$sum" "$(built_with kit)"
-  else
-    printf 'commit: unknown, since this program was built by something else\nprogram: SHA-256 %s\nkit: unknown\n' "$sum"
-  fi
-  echo "store: $(layouts)"
-  echo "pages: $top/docs"
-}

@@ -74,16 +74,3 @@ show_building() {
   elif [ $((seconds / 15)) -gt $((shown / 15)) ]; then say "building, $seconds s so far"; fi
   shown=$seconds
 }
-
-# Answers from that program, and ends.
-answer_now() {
-  local unproved status
-  [[ " $without_store " == *" $1 "* ]] || { say "--now is for the commands without a store: $without_store"; exit 1; }
-  ! leads_to_store 1 || { say "status 8: the output is $kept itself; print to another file"; exit 8; }
-  make_unproved || exit 125
-  "${unproved[@]}" "$@"
-  status=$?
-  say 'nothing is proved of this answer: it is of the same code, built at once'
-  [ "$status" -eq 0 ] || report "$status" "$@"
-  exit "$status"
-}

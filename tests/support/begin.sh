@@ -3,7 +3,7 @@
 top=$(cd "$(dirname "${BASH_SOURCE[0]}")/../.." && pwd -P) || exit 2
 within=$(mktemp -d) || exit 2
 trap 'rm -rf "$within"' EXIT
-taxi=$top/crates/taxi_cli/out/taxi_cli hiring_log=$top/crates/hiring_log/out/hiring_log test=${0##*/} failures=0 tried=0
+taxi=${TAXI_PROGRAM:-$top/crates/taxi_cli/out/taxi_cli} hiring_log=${LOG_PROGRAM:-$top/crates/hiring_log/out/hiring_log} test=${0##*/} failures=0 tried=0
 fail() { echo "$test: $1"; failures=$((failures + 1)); }
 leave_out() { echo "$test: $1" | tee -a "${LEFT_OUT:-/dev/null}"; }
 # The last line of a test, and its status.

@@ -71,7 +71,7 @@ PLANTS = {
 def texts():
     """The tariffs of the examples and the texts that have each fault."""
     found = [path.read_text() for path in sorted((TOP / "examples").glob("*.tariff"))]
-    for block in (TOP / "lib/faults.txt").read_text().split("\n\n"):
+    for block in (TOP / "tools/make/faults.txt").read_text().split("\n\n"):
         if block.startswith("BAD TARIFF"):
             lines = block.split("bad:\n")[1].split("\ngood:")[0].splitlines()
             many = [re.match(r"  (?:\*(\d+) )?(.*)", line) for line in lines]

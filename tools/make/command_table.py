@@ -1,4 +1,4 @@
-"""The table of commands of a wrapper in bin/: what its function `commands` prints."""
+"""The table of commands of a program, as crates/said has it: what `help` lists."""
 
 import collections
 import pathlib
@@ -13,10 +13,10 @@ Row = collections.namedtuple("Row", "words what")
 
 def rows_of(program):
     """The rows of a program's table, in its order."""
-    text = (TOP / "bin" / program).read_text()
-    table = re.search(r"^commands\(\) \{\n  cat <<'END'\n(.*?)^END$", text, re.MULTILINE | re.DOTALL)
-    fields = (line.split("|") for line in table.group(1).splitlines())
-    return [Row(words.split(), what) for words, what, *_ in fields]
+    text = (TOP / "crates/said/src/table.rt").read_text()
+    table = text[text.index(f'    name: "{program}"'):]
+    rows = re.findall(r'Command \{\s*words: &\[(.*?)\],\s*does: "(.*?)",', table[:table.index("need_seal")], re.DOTALL)
+    return [Row(re.findall(r'"(.*?)"', words), what) for words, what in rows]
 
 
 def put_or_compare(made, compare):

@@ -1,11 +1,12 @@
 -- What stays of an entry if the numbers of a rate are others.
-use Rattle.{std.specs.{Option.{is_some, option_map}, Prelude.{is_none, not}}, tariff_tree.specs.Choices.{initial_part}}
+use Rattle.std.specs.{Option.{is_some, option_map}, Prelude.{is_none, not}}
 use Rattle.std.proofs.Common.{[], ℕ, ◌&&◌, ◌||◌, ◌∙◌, ◌∷◌, ◌≡◌, Bool, List, None, Option, Some, ap, refl}
-use Rattle.tariff_tree.specs.Tree.{holiday, initial, minimum, positions, step, supplement, zones}
+use Rattle.tariff_tree.specs.Tree.{holiday, positions, step, supplement, zones}
 use Rattle.tariff_check.specs.Lines.{atoms_if, excludes, is_alike, is_default_for, is_no_holiday, most_alike}
 use Rattle.tariff_check.specs.Parts.{holiday_part, numbered_supplement, positions_part, step_part, zones_part}
-use Rattle.near_commands.specs.Common.{Condition, Entry, Line, RateNumbers, atoms_in, rate, rate_part, when_part}
-use Rattle.near_commands.{specs.NearTariff.{with_rate}, proofs.AlikeLines.{condition_part}}
+use Rattle.near_commands.specs.Common.{Condition, Entry, Line, RateNumbers, atoms_in, initial, initial_part, minimum}
+use Rattle.near_commands.{specs.Common.{rate, rate_part, when_part}, proofs.AlikeLines.{condition_part}}
+use Rattle.near_commands.specs.NearTariff.{with_rate}
 
 module _ (f : RateNumbers → RateNumbers) where
   pub when_same : (x : Entry) → when_part (with_rate f x) ≡ when_part x

@@ -1,11 +1,11 @@
 -- Lines that are alike but for the numbers of their rates, and perhaps of the lines.
 use Rattle.std.{specs.List.{cons_option, filter_map, flat_map, list_any}, proofs.Common.{refl, true}}
-use Rattle.{std.specs.Option.{option_map}, tariff_tree.specs.Choices.{conditions_of}, tariff_check.specs.Parts.{parts}}
+use Rattle.{std.specs.Option.{option_map}, tariff_tree.specs.Tree.{holiday, positions, step, supplement, zones}}
 use Rattle.std.{specs.Prelude.{⊤, count_by, is_none, is_some}, proofs.lemmas.List.Sums.{sum_by-cons}}
 use Rattle.std.proofs.Common.{[], ℕ, ◌++◌, ◌||◌, ◌∙◌, ◌∷◌, ◌≡◌, Bool, List, None, Option, Some, ap, cond, false, map}
-use Rattle.tariff_tree.specs.Tree.{holiday, initial, minimum, positions, step, supplement, zones}
-use Rattle.{tariff_check.specs.Lines.{LineTest, first_after}, near_commands.specs.NearTariff.{with_rate}}
-use Rattle.near_commands.specs.Common.{Condition, Entry, Line, RateNumbers, choices, rate, when_part}
+use Rattle.tariff_check.specs.{Lines.{LineTest, first_after}, Parts.{parts}}
+use Rattle.near_commands.specs.Common.{Condition, Entry, Line, RateNumbers, choices, conditions_of, initial, minimum}
+use Rattle.near_commands.specs.{Common.{rate, when_part}, NearTariff.{with_rate}}
 
 module _ (f : RateNumbers → RateNumbers) (N : ℕ → ℕ → Type 0) where
   -- lines are alike if they say the same, but for the numbers of rates

@@ -22,3 +22,5 @@ mod Shares
 mod NearRates
 -- a near tariff is sound
 mod NearSound
+-- what a near tariff chooses in a context
+mod NearChoices

@@ -3,20 +3,20 @@ use Rattle.std.specs.{List.{cons_option, list_any}, Option.{option_or}, Prelude.
 use Rattle.std.proofs.Common.{[], ℕ, ◌&&◌, ◌*◌, ◌++◌, ◌/◌, ◌<◌, ◌==◌, ◌^◌, ◌||◌, ◌∙◌, ◌∷◌, ◌≡◌, ◌≤◌, All, List, None}
 use Rattle.std.proofs.Common.{Ok, Option, Some, ap, arith, cond, false, refl, subst, suc, sym, true, zero}
 use Rattle.std.proofs.lemmas.{Bool.{le-ltb, leb-true, ne_eqb}, List.Elements.{All-cons, All-head, All-nil, All-tail}}
-use Rattle.{tariff_tree.specs.Choices.{choice_in}, tariff_check.specs.Lines.{is_for_nothing}}
-use Rattle.{tariff_check.specs.Faults.{HasNone, IsSound}, near_commands.proofs.AlikeEntries.{atoms_same}}
-use Rattle.tariff_check.specs.{Kinds.{is_great}, declared.fault.CheckFault.TheVariants.{AmountTooBig, MeasureZero}}
+use Rattle.tariff_check.{specs.{Faults.{HasNone, IsSound}, Kinds.{is_great}}, proofs.Laws.{measures_are_least-least}}
 use Rattle.tariff_check.specs.Lines.{LineTest, first_after, has_great_amount, has_measure_zero, is_after_nothing}
-use Rattle.tariff_check.{specs.Measure.{IsMultipleOfAll, measures_of}, proofs.Laws.{measures_are_least-least}}
+use Rattle.tariff_check.specs.{Lines.{is_for_nothing}, Measure.{IsMultipleOfAll, measures_of}}
+use Rattle.tariff_check.specs.declared.fault.CheckFault.TheVariants.{AmountTooBig, MeasureZero}
 use Rattle.near_commands.specs.Common.{CheckFault, Distance, Entry, Line, Measures, Minute, MonthDay, RateNumbers, Time}
-use Rattle.near_commands.specs.Common.{Tree, atoms_in, choices, fault_at, faults_of, first_line, first_some, measure_of}
-use Rattle.near_commands.specs.{Common.{rate, rate_part, rates_of, values_of}, Nearest.{measures_at, near_rate}}
+use Rattle.near_commands.specs.Common.{Tree, atoms_in, choice_in, choices, fault_at, faults_of, first_line, first_some}
+use Rattle.near_commands.specs.Common.{measure_of, rate, rate_part, rates_of, values_of}
 use Rattle.near_commands.specs.NearTariff.{fit, is_moderate, measures_of_rates, near_measures, near_tariff}
 use Rattle.near_commands.specs.NearTariff.{numbered_rates, other_faults, with_rate, with_rates}
+use Rattle.near_commands.{specs.Nearest.{measures_at, near_rate}, proofs.PlainFaults.{Same, copies_alike, told_same}}
+use Rattle.near_commands.proofs.{AlikeEntries.{atoms_same}, RateNumbers.{numbers_are_rates}}
 use Rattle.near_commands.proofs.NearRates.{AreFound, IsExponent, measured, positive, unless_fault}
 use Rattle.near_commands.proofs.OtherFaults.{alike_after, alike_cells, alike_count, alike_date, alike_duplicate}
 use Rattle.near_commands.proofs.OtherFaults.{alike_initial, alike_rate, alike_step, alike_too_many, alike_unknown}
-use Rattle.near_commands.proofs.{PlainFaults.{Same, copies_alike, told_same}, RateNumbers.{numbers_are_rates}}
 
 none_first : (x : Option CheckFault) (y : Option CheckFault) → option_or x y ≡ None → (x ≡ None) × (y ≡ None)
 none_first None y is = (refl, is)

@@ -2,15 +2,14 @@
 use Rattle.std.specs.{List.{flat_map, list_any, slice_get}, Option.{unwrap_or}}
 use Rattle.std.{specs.Prelude.{count_by, is_none, nat_le, nat_lt, not}, proofs.Common.{length, refl, sym, true}}
 use Rattle.std.proofs.Common.{[], ℕ, ◌&&◌, ◌*◌, ◌+◌, ◌||◌, ◌∙◌, ◌∷◌, ◌≡◌, Bool, List, None, Option, Some, ap, cond}
-use Rattle.tariff_tree.specs.Choices.{conditions_of, initial_part}
-use Rattle.tariff_check.specs.Cells.{bands_between, cells_of, day_kinds}
-use Rattle.tariff_check.specs.{Cuts.{all_cuts, atom_cuts, count_of, with_each}, Faults.{has_default}}
+use Rattle.tariff_check.specs.{Cells.{bands_between, cells_of, day_kinds}, declared.fault.Dimension.{Dimension}}
+use Rattle.tariff_check.specs.{Cuts.{all_cuts, atom_cuts, count_of, with_each}, Parts.{step_part, zones_of, zones_part}}
+use Rattle.tariff_check.specs.Faults.{has_default}
 use Rattle.tariff_check.specs.Lines.{excludes, has_bad_date, is_after_default, is_alike, is_default_for, is_duplicate}
 use Rattle.tariff_check.specs.Lines.{is_no_holiday, is_one_too_many, is_undated, is_unknown, most_alike, names_unknown}
 use Rattle.tariff_check.specs.Parts.{first_part, has_holidays, holiday_part, parts, positions_of, positions_part}
-use Rattle.tariff_check.specs.{Parts.{step_of, step_part, zones_of, zones_part}, declared.fault.Dimension.{Dimension}}
 use Rattle.near_commands.specs.Common.{Condition, Distance, Entry, Line, Minute, MonthDay, RateNumbers, Time, atoms_in}
-use Rattle.near_commands.specs.Common.{choices, first_line, rate_part}
+use Rattle.near_commands.specs.Common.{choices, conditions_of, first_line, initial_part, rate_part, step_of}
 use Rattle.near_commands.{specs.NearTariff.{with_rate}, proofs.AlikeEntries.{rate_when_same, step_same, zones_same}}
 use Rattle.near_commands.proofs.AlikeEntries.{alike_same, atoms_same, default_same, excludes_same, holiday_same}
 use Rattle.near_commands.proofs.AlikeEntries.{initial_when_same, most_same, no_holiday_same, positions_same}

@@ -1,8 +1,7 @@
 -- The rates of lines, with the numbers of these.
-use Rattle.{std.specs.List.{cons_option}, tariff_tree.specs.Choices.{choice_in}}
+use Rattle.{std.specs.List.{cons_option}, near_commands.specs.NearTariff.{numbered_rates, numbers_of}}
 use Rattle.std.{specs.Option.{option_map}, proofs.Common.{[], ◌∷◌, ◌≡◌, List, None, Option, Some, ap, map, refl}}
-use Rattle.near_commands.specs.Common.{Line, RateNumbers, choices, rate_part, rates_of, values_of, when_part}
-use Rattle.near_commands.specs.NearTariff.{numbered_rates, numbers_of}
+use Rattle.near_commands.specs.Common.{Line, RateNumbers, choice_in, choices, rate_part, rates_of, values_of, when_part}
 
 -- without the numbers they are the rates
 pub numbers_are_rates : (ls : List Line) → numbers_of (numbered_rates ls) ≡ rates_of ls

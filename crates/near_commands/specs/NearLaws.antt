@@ -1,6 +1,6 @@
 -- Rules: what is promised of a near tariff.
 use Rattle.std.specs.{List.{slice_get}, Prelude.{[], ℕ, ⊤, ◌*◌, ◌/◌, ◌^◌, ◌∷◌, ◌≡◌, ◌≤◌, List, Some, sum}}
-use Rattle.{tariff_tree.specs.Meaning.{rate_place}, near_commands.specs.{Common.{RateNumbers, Tree}, Nearest.{apart}}}
+use Rattle.near_commands.specs.{Common.{RateNumbers, Tree, rate_place}, Nearest.{apart}}
 
 -- a number is within a share of another one, in parts of 10^9, if it is apart from it by at most that share of it
 abbrev pub IsWithin : (share number given : ℕ) → Type 0

@@ -11,5 +11,5 @@ mod rates;
 
 pub use near_laws::{
     amounts_are_nearest, near_charges_are_within_the_share, near_fares_are_within_a_step,
-    near_tariffs_are_sound,
+    near_tariffs_are_sound, near_tariffs_choose_alike,
 };

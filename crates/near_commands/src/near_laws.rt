@@ -1,13 +1,13 @@
 //! What a near tariff charges.
-ghost use Rattle.std.specs.{List.{slice_get}, Prelude.{ℕ, ◌*◌, ◌+◌, ◌<◌, ◌^◌, ◌≡◌, ◌≤◌, All, List, Ok, Some, sum}};
+ghost use Rattle.std.specs.Prelude.{ℕ, ◌*◌, ◌+◌, ◌<◌, ◌^◌, ◌≡◌, ◌≤◌, All, List, Ok, map, sum};
 ghost use Rattle.drive_modes.specs.{Charge.{charge_of}, declared.charges.Mode.{Mode}};
 ghost use Rattle.drive_modes.specs.{Fare.{Opening, shown_fare, steps_above}, declared.meterage.Rounding.{Rounding}};
-ghost use Rattle.tariff_tree.specs.{Meaning.{rate_place}, declared.context.Context.{Context}};
-ghost use Rattle.{tariff_check.specs.Faults.{IsSound}, tariff_compile.specs.Tables.{weights_of}};
-ghost use Rattle.near_commands.specs.Common.{Measures, RateNumbers, Tree, measure_of, rates_of};
+ghost use Rattle.tariff_tree.specs.{Meaning.{initial_place, minimum_place}, declared.context.Context.{Context}};
+ghost use Rattle.tariff_check.specs.{Faults.{IsSound}, Kinds.{initials_of, minimums_of}};
+ghost use Rattle.{tariff_compile.specs.Tables.{weights_of}, near_commands.specs.Nearest.{apart, near_rate, nearest}};
+ghost use Rattle.near_commands.specs.Common.{Measures, RateNumbers, Tree, measure_of, rate_place, rates_of, step_of};
 ghost use Rattle.near_commands.specs.NearLaws.{AreWithin, IsMultipleOf, IsRateWithin, IsWithin};
 ghost use Rattle.near_commands.specs.NearTariff.{greatest_share, near_measures, near_tariff};
-ghost use Rattle.near_commands.specs.Nearest.{apart, near_rate, nearest};
 
 /// A law: the near amount is the nearest whole one, and the greater one of two that are as near.
 pub fn amounts_are_nearest()
@@ -21,6 +21,23 @@ pub fn near_tariffs_are_sound()
     ensures sound { (t : Tree) (m : Measures) → near_measures t ≡ Ok m → IsSound (near_tariff m t) }
     ensures measure { (t : Tree) (m : Measures) → near_measures t ≡ Ok m
         → measure_of (near_tariff m t).lines ≤ 90000000 }
+{}
+
+/// A law: a near tariff has the near rates of the given one, in the same order, and in each context the rate, the
+/// initial hire fee and the minimum fare at the same places among those of their kind. What fees and minimum fares say
+/// is the same.
+pub fn near_tariffs_choose_alike()
+    ensures rates { (t : Tree) (m : Measures)
+        → rates_of (near_tariff m t).lines ≡ map (near_rate m) (rates_of t.lines) }
+    ensures places { (t : Tree) (m : Measures) (x : Context) → rate_place (near_tariff m t) x ≡ rate_place t x }
+    ensures initial_places { (t : Tree) (m : Measures) (x : Context)
+        → initial_place (near_tariff m t) x ≡ initial_place t x }
+    ensures minimum_places { (t : Tree) (m : Measures) (x : Context)
+        → minimum_place (near_tariff m t) x ≡ minimum_place t x }
+    ensures fees { (t : Tree) (m : Measures)
+        → (initials_of (near_tariff m t).lines ≡ initials_of t.lines)
+        × (minimums_of (near_tariff m t).lines ≡ minimums_of t.lines) }
+    ensures step { (t : Tree) (m : Measures) → step_of (near_tariff m t).lines ≡ step_of t.lines }
 {}
 
 /// A law: of each tariff for which a near one is printed, each rate's price of a decimetre and of a tenth of a second is

@@ -50,10 +50,10 @@ fn fault_4() -> Topic {
         names: "BAD TARIFF Duplicate|TARIFF Duplicate|Duplicate|BAD OTHER Duplicate",
         text: "as BAD TARIFF Duplicate 3 (docs/TARIFF.md)\nLine n is a second `step`, `positions` or `zones` \
 line, or has the number of a supplement or the date of a holiday that an\nearlier line has.\na \
-text that has it:\n    step 0.20\n    supplement 1 2.00 max 4\n    supplement 1 6.50 max 1\n \
-   initial 3.80\n    rate 0.20 per 117.4 m, 0.20 per 25.2 s\nthe same mended:\n    step 0.20\n \
-   supplement 1 2.00 max 4\n    supplement 2 6.50 max 1\n    initial 3.80\n    rate 0.20 per \
-117.4 m, 0.20 per 25.2 s\n",
+text that has it:\n    step 0.20\n    supplement 1 2.00 max 4\n    supplement 1 6.50 max 1\n    \
+initial 3.80\n    rate 0.20 per 117.4 m, 0.20 per 25.2 s\nthe same mended:\n    step 0.20\n    \
+supplement 1 2.00 max 4\n    supplement 2 6.50 max 1\n    initial 3.80\n    rate 0.20 per 117.4 \
+m, 0.20 per 25.2 s\n",
     }
 }
 
@@ -62,11 +62,11 @@ fn fault_5() -> Topic {
     Topic {
         names: "BAD TARIFF TooManyLines|TARIFF TooManyLines|TooManyLines|BAD OTHER TooManyLines",
         text: "as BAD TARIFF TooManyLines 68 (docs/TARIFF.md)\nLine n is the 65th of a word that may have a \
-condition, or the 256th `holiday`.\na text that has it:\n    step 0.20\n    initial 3.80\n \
-   positions 2\n    rate 0.10 per 40.0 m, 0.10 per 10.0 s when position 2\n    .. and so on, 65 \
-such lines\n    rate 0.20 per 117.4 m, 0.20 per 25.2 s\nthe same mended:\n    step 0.20\n \
-   initial 3.80\n    positions 2\n    rate 0.10 per 40.0 m, 0.10 per 10.0 s when position 2\n \
-   rate 0.20 per 117.4 m, 0.20 per 25.2 s\n",
+condition, or the 256th `holiday`.\na text that has it:\n    step 0.20\n    initial 3.80\n    \
+positions 2\n    rate 0.10 per 40.0 m, 0.10 per 10.0 s when position 2\n    .. and so on, 65 \
+such lines\n    rate 0.20 per 117.4 m, 0.20 per 25.2 s\nthe same mended:\n    step 0.20\n    \
+initial 3.80\n    positions 2\n    rate 0.10 per 40.0 m, 0.10 per 10.0 s when position 2\n    \
+rate 0.20 per 117.4 m, 0.20 per 25.2 s\n",
     }
 }
 
@@ -75,8 +75,8 @@ fn fault_6() -> Topic {
     Topic {
         names: "BAD TARIFF UnknownNumber|TARIFF UnknownNumber|UnknownNumber|BAD OTHER UnknownNumber",
         text: "as BAD TARIFF UnknownNumber 3 (docs/TARIFF.md)\nA condition of line n names a position above \
-`positions` or a zone above `zones`; without such a line there is only 1.\na text that has it:\n \
-   step 0.20\n    initial 3.80\n    rate 0.10 per 40.0 m, 0.10 per 10.0 s when zone 2\n    rate \
+`positions` or a zone above `zones`; without such a line there is only 1.\na text that has it:\n    \
+step 0.20\n    initial 3.80\n    rate 0.10 per 40.0 m, 0.10 per 10.0 s when zone 2\n    rate \
 0.20 per 117.4 m, 0.20 per 25.2 s\nthe same mended:\n    step 0.20\n    zones 2\n    initial \
 3.80\n    rate 0.10 per 40.0 m, 0.10 per 10.0 s when zone 2\n    rate 0.20 per 117.4 m, 0.20 per \
 25.2 s\n",
@@ -88,11 +88,11 @@ fn fault_7() -> Topic {
     Topic {
         names: "BAD TARIFF NoDefaultRate|TARIFF NoDefaultRate|NoDefaultRate|BAD OTHER NoDefaultRate",
         text: "as BAD TARIFF NoDefaultRate (docs/TARIFF.md)\nEach `rate` line has a condition, or there is \
-none: if none of them holds, nothing would say what a distance costs.\na text that has it:\n \
-   step 0.20\n    initial 3.80\n    rate 0.30 per 117.4 m, 0.30 per 25.2 s when time \
-22:00..06:00\n    rate 0.20 per 117.4 m, 0.20 per 25.2 s when time 06:00..22:00\nthe same \
-mended:\n    step 0.20\n    initial 3.80\n    rate 0.30 per 117.4 m, 0.30 per 25.2 s when time \
-22:00..06:00\n    rate 0.20 per 117.4 m, 0.20 per 25.2 s\n",
+none: if none of them holds, nothing would say what a distance costs.\na text that has it:\n    \
+step 0.20\n    initial 3.80\n    rate 0.30 per 117.4 m, 0.30 per 25.2 s when time 22:00..06:00\n    \
+rate 0.20 per 117.4 m, 0.20 per 25.2 s when time 06:00..22:00\nthe same mended:\n    step 0.20\n    \
+initial 3.80\n    rate 0.30 per 117.4 m, 0.30 per 25.2 s when time 22:00..06:00\n    rate 0.20 \
+per 117.4 m, 0.20 per 25.2 s\n",
     }
 }
 
@@ -101,10 +101,10 @@ fn fault_8() -> Topic {
     Topic {
         names: "BAD TARIFF NoDefaultInitial|TARIFF NoDefaultInitial|NoDefaultInitial|BAD OTHER NoDefaultInitial",
         text: "as BAD TARIFF NoDefaultInitial (docs/TARIFF.md)\nEach `initial` line has a condition, or there \
-is none: if none of them holds, nothing would say what a hiring costs.\na text that has it:\n \
-   step 0.20\n    initial 4.80 when day sun\n    rate 0.20 per 117.4 m, 0.20 per 25.2 s\nthe \
-same mended:\n    step 0.20\n    initial 4.80 when day sun\n    initial 3.80\n    rate 0.20 per \
-117.4 m, 0.20 per 25.2 s\n",
+is none: if none of them holds, nothing would say what a hiring costs.\na text that has it:\n    \
+step 0.20\n    initial 4.80 when day sun\n    rate 0.20 per 117.4 m, 0.20 per 25.2 s\nthe same \
+mended:\n    step 0.20\n    initial 4.80 when day sun\n    initial 3.80\n    rate 0.20 per 117.4 \
+m, 0.20 per 25.2 s\n",
     }
 }
 
@@ -126,8 +126,8 @@ fn fault_10() -> Topic {
     Topic {
         names: "BAD TARIFF BadDate|TARIFF BadDate|BadDate|BAD OTHER BadDate",
         text: "as BAD TARIFF BadDate 2 (docs/TARIFF.md)\nLine n is a holiday that is no date of the years 2000 \
-to 2199, or its condition has a month and date that no leap year has.\na text that has it:\n \
-   step 0.20\n    holiday 2027-02-29\n    initial 3.80\n    rate 0.20 per 117.4 m, 0.20 per 25.2 \
+to 2199, or its condition has a month and date that no leap year has.\na text that has it:\n    \
+step 0.20\n    holiday 2027-02-29\n    initial 3.80\n    rate 0.20 per 117.4 m, 0.20 per 25.2 \
 s\nthe same mended:\n    step 0.20\n    holiday 2028-02-29\n    initial 3.80\n    rate 0.20 per \
 117.4 m, 0.20 per 25.2 s\n",
     }
@@ -140,8 +140,8 @@ fn fault_11() -> Topic {
         text: "as BAD TARIFF AmountTooBig 2 (docs/TARIFF.md)\nLine n has a step, a supplement or an amount of a \
 rate above 1,000,000 units of the last decimal, or a hire fee, a cover or a\nminimum fare above \
 99,999,999.\na text that has it:\n    step 0.20\n    supplement 1 10000.01 max 1\n    initial \
-3.80\n    rate 0.20 per 117.4 m, 0.20 per 25.2 s\nthe same mended:\n    step 0.20\n \
-   supplement 1 10000.00 max 1\n    initial 3.80\n    rate 0.20 per 117.4 m, 0.20 per 25.2 s\n",
+3.80\n    rate 0.20 per 117.4 m, 0.20 per 25.2 s\nthe same mended:\n    step 0.20\n    \
+supplement 1 10000.00 max 1\n    initial 3.80\n    rate 0.20 per 117.4 m, 0.20 per 25.2 s\n",
     }
 }
 
@@ -162,11 +162,11 @@ fn fault_13() -> Topic {
         names: "BAD TARIFF NoCommonMeasure|TARIFF NoCommonMeasure|NoCommonMeasure|BAD OTHER NoCommonMeasure",
         text: "as BAD TARIFF NoCommonMeasure (docs/TARIFF.md)\nThe common measure is above 10^18: the least \
 common multiple of all metres and seconds of the `rate` lines, in decimetres and\ntenths of a \
-second. Measures with factors in common help, as 120.0 m beside 24.0 s.\na text that has it:\n \
-   step 0.20\n    initial 3.80\n    rate 0.20 per 99998.3 m, 0.20 per 99997.9 s when day sun\n \
-   rate 0.20 per 99996.1 m, 0.20 per 99995.9 s\nthe same mended:\n    step 0.20\n    initial \
-3.80\n    rate 0.20 per 100000.0 m, 0.20 per 100000.0 s when day sun\n    rate 0.20 per 50000.0 \
-m, 0.20 per 25000.0 s\n",
+second. `taxi near TARIFF` prints the same tariff by the nearest amounts for one pair of \
+measures, which has one.\na text that has it:\n    step 0.20\n    initial 3.80\n    rate 0.20 \
+per 99998.3 m, 0.20 per 99997.9 s when day sun\n    rate 0.20 per 99996.1 m, 0.20 per 99995.9 \
+s\nthe same mended:\n    step 0.20\n    initial 3.80\n    rate 0.20 per 100000.0 m, 0.20 per \
+100000.0 s when day sun\n    rate 0.20 per 50000.0 m, 0.20 per 25000.0 s\n",
     }
 }
 
@@ -197,8 +197,8 @@ fn fault_15() -> Topic {
         text: "as BAD TARIFF TooManyCells 81648 (docs/TARIFF.md)\nThere would be more than 64,512 cells: \
 positions times zones times 7 weekdays, times 2 if there are holidays, times the\nbands between \
 the cuts of days, minutes, distances and times. The last number is how many there would be.\na \
-text that has it:\n    step 0.20\n    positions 9\n    zones 9\n    holiday 2026-12-25\n \
-   initial 3.80\n    rate 0.11 per 1.0 m, 0.10 per 1.0 s when time 01:00..02:00 or time \
+text that has it:\n    step 0.20\n    positions 9\n    zones 9\n    holiday 2026-12-25\n    \
+initial 3.80\n    rate 0.11 per 1.0 m, 0.10 per 1.0 s when time 01:00..02:00 or time \
 03:00..04:00 or time 05:00..06:00 or time 07:00..08:00\n    rate 0.12 per 1.0 m, 0.10 per 1.0 s \
 when after 1.0 m or after 2.0 m or after 3.0 m or after 4.0 m\n    rate 0.13 per 1.0 m, 0.10 per \
 1.0 s when after 5.0 m or after 6.0 m or after 7.0 m\n    rate 0.20 per 1.0 m, 0.10 per 1.0 s\n\
@@ -229,8 +229,8 @@ fn fault_17() -> Topic {
         text: "as BAD PARAMS TooLong (docs/FORMATS.md)\nThe text has more than 65,536 bytes.\na text that has \
 it:\n    # A comment of sixty-six bytes, so a thousand of it are too many.\n    .. and so on, \
 1000 such lines\n    taxi LX-4711\n    constant 10000\n    mode single\n    hold 60\n    offset \
-946684800 3600\n    secured 2025-12-01\nthe same mended:\n    taxi LX-4711\n    constant 10000\n \
-   mode single\n    hold 60\n    offset 946684800 3600\n    secured 2025-12-01\n",
+946684800 3600\n    secured 2025-12-01\nthe same mended:\n    taxi LX-4711\n    constant 10000\n    \
+mode single\n    hold 60\n    offset 946684800 3600\n    secured 2025-12-01\n",
     }
 }
 
@@ -239,10 +239,10 @@ fn fault_18() -> Topic {
     Topic {
         names: "BAD PARAMS Unknown|PARAMS Unknown|Unknown",
         text: "as BAD PARAMS Unknown 2 (docs/FORMATS.md)\nLine n is the first bad line, and its key is no \
-parameter's. A line without a blank is its key.\na text that has it:\n    taxi LX-4711\n \
-   pulses 10000\n    mode single\n    hold 60\n    offset 946684800 3600\n    secured \
-2025-12-01\nthe same mended:\n    taxi LX-4711\n    constant 10000\n    mode single\n    hold \
-60\n    offset 946684800 3600\n    secured 2025-12-01\n",
+parameter's. A line without a blank is its key.\na text that has it:\n    taxi LX-4711\n    \
+pulses 10000\n    mode single\n    hold 60\n    offset 946684800 3600\n    secured 2025-12-01\n\
+the same mended:\n    taxi LX-4711\n    constant 10000\n    mode single\n    hold 60\n    offset \
+946684800 3600\n    secured 2025-12-01\n",
     }
 }
 
@@ -251,10 +251,10 @@ fn fault_19() -> Topic {
     Topic {
         names: "BAD PARAMS Twice|PARAMS Twice|Twice",
         text: "as BAD PARAMS Twice Hold (docs/FORMATS.md)\nThe first bad line has a key other than `offset` \
-that stood before.\na text that has it:\n    taxi LX-4711\n    constant 10000\n    mode single\n \
-   hold 60\n    hold 120\n    offset 946684800 3600\n    secured 2025-12-01\nthe same mended:\n \
-   taxi LX-4711\n    constant 10000\n    mode single\n    hold 120\n    offset 946684800 3600\n \
-   secured 2025-12-01\n",
+that stood before.\na text that has it:\n    taxi LX-4711\n    constant 10000\n    mode single\n    \
+hold 60\n    hold 120\n    offset 946684800 3600\n    secured 2025-12-01\nthe same mended:\n    \
+taxi LX-4711\n    constant 10000\n    mode single\n    hold 120\n    offset 946684800 3600\n    \
+secured 2025-12-01\n",
     }
 }
 
@@ -265,9 +265,9 @@ fn fault_20() -> Topic {
         text: "as BAD PARAMS BadValue 5 (docs/FORMATS.md)\nLine n is the first bad line, and its value is not \
 as docs/FORMATS.md says, or its offset can't follow those before. Here the\nfirst offset has to \
 begin at 946684800.\na text that has it:\n    taxi LX-4711\n    constant 10000\n    mode \
-single\n    hold 60\n    offset 1774746000 7200\n    secured 2025-12-01\nthe same mended:\n \
-   taxi LX-4711\n    constant 10000\n    mode single\n    hold 60\n    offset 946684800 3600\n \
-   offset 1774746000 7200\n    secured 2025-12-01\n",
+single\n    hold 60\n    offset 1774746000 7200\n    secured 2025-12-01\nthe same mended:\n    \
+taxi LX-4711\n    constant 10000\n    mode single\n    hold 60\n    offset 946684800 3600\n    \
+offset 1774746000 7200\n    secured 2025-12-01\n",
     }
 }
 
@@ -276,8 +276,8 @@ fn fault_21() -> Topic {
     Topic {
         names: "BAD PARAMS Missing|PARAMS Missing|Missing",
         text: "as BAD PARAMS Missing Mode (docs/FORMATS.md)\nNo line is bad, and a key has no line: `taxi`, \
-`constant`, `mode`, `hold`, `offset` or `secured`.\na text that has it:\n    taxi LX-4711\n \
-   constant 10000\n    hold 60\n    offset 946684800 3600\n    secured 2025-12-01\nthe same \
+`constant`, `mode`, `hold`, `offset` or `secured`.\na text that has it:\n    taxi LX-4711\n    \
+constant 10000\n    hold 60\n    offset 946684800 3600\n    secured 2025-12-01\nthe same \
 mended:\n    taxi LX-4711\n    constant 10000\n    mode single\n    hold 60\n    offset \
 946684800 3600\n    secured 2025-12-01\n",
     }
@@ -302,8 +302,8 @@ fn fault_23() -> Topic {
         text: "as BAD RULES BadLine 3 (docs/FORMATS.md)\nLine n is the first of the four that isn't as it has \
 to be, or is absent; or n is 5, and something follows the four lines.\nEach line ends in LF, the \
 last one too.\na text that has it:\n    standard 3600\n    summer 7200\n    begin last sunday \
-mar 01:00\n    end last sun oct 01:00\nthe same mended:\n    standard 3600\n    summer 7200\n \
-   begin last sun mar 01:00\n    end last sun oct 01:00\n",
+mar 01:00\n    end last sun oct 01:00\nthe same mended:\n    standard 3600\n    summer 7200\n    \
+begin last sun mar 01:00\n    end last sun oct 01:00\n",
     }
 }
 
@@ -311,10 +311,10 @@ mar 01:00\n    end last sun oct 01:00\nthe same mended:\n    standard 3600\n    
 fn fault_24() -> Topic {
     Topic {
         names: "BAD RULES SameMonth|RULES SameMonth|SameMonth",
-        text: "as BAD RULES SameMonth (docs/FORMATS.md)\nBoth changes are in one month.\na text that has it:\n \
-   standard 3600\n    summer 7200\n    begin first sun mar 01:00\n    end last sun mar 01:00\n\
-the same mended:\n    standard 3600\n    summer 7200\n    begin last sun mar 01:00\n    end last \
-sun oct 01:00\n",
+        text: "as BAD RULES SameMonth (docs/FORMATS.md)\nBoth changes are in one month.\na text that has it:\n    \
+standard 3600\n    summer 7200\n    begin first sun mar 01:00\n    end last sun mar 01:00\nthe \
+same mended:\n    standard 3600\n    summer 7200\n    begin last sun mar 01:00\n    end last sun \
+oct 01:00\n",
     }
 }
 

@@ -30,6 +30,19 @@ pub(crate) fn read_file<R: Files>(
     None
 }
 
+/// Whether a name leads to something.
+pub(crate) fn is_there<R: Files>(rt: &R, name: &str) -> bool {
+    fs::metadata(rt, name).is_ok()
+}
+
+/// How many bytes the file of a name has; 0 if the system doesn't tell.
+pub(crate) fn named_length<R: Files>(rt: &R, name: &str) -> u64 {
+    match fs::metadata(rt, name) {
+        Ok(found) => found.len(),
+        Err(_) => 0,
+    }
+}
+
 /// Whether a plain file can be opened and read. Nothing is asked of another one, which might never answer.
 fn try_file<R: Files>(rt: &R, name: &str) -> io::Result<()> {
     let found = fs::metadata(rt, name)?;

@@ -1,8 +1,11 @@
 //! The help of a program.
-use crate::table::{Command, Program};
+use crate::shown::push_name;
+use crate::table::Program;
 use crate::texts::{Kind, topic_at};
+use crate::tree::{push_example, tree_of};
 use crate::words::push_words;
 use std::alloc::{AllocError, Global};
+use std::rt::Files;
 
 /// How wide the words of a command are, at least.
 const WIDTH: usize = 30;
@@ -31,8 +34,14 @@ fn push_row(
     text.push('\n')
 }
 
-/// Appends the list of a program's commands, by what somebody wants to do.
-pub(crate) fn push_help(text: &mut String, program: &Program) -> Result<(), AllocError> {
+/// Appends the list of a program's commands, by what somebody wants to do, and where its pages lie.
+pub(crate) fn push_help<R: Files + AllocGlobal>(
+    text: &mut String,
+    rt: &R,
+    alloc: Global,
+    program: &Program,
+) -> Result<(), AllocError> {
+    text.push_str("usage:\n")?;
     let mut purpose = "";
     for command in program.commands {
         if command.purpose != purpose {
@@ -43,56 +52,117 @@ pub(crate) fn push_help(text: &mut String, program: &Program) -> Result<(), Allo
         push_row(text, program, command.words, command.does)?;
     }
     text.push_str("about this program\n")?;
-    push_row(
-        text,
-        program,
-        &["help", "COMMAND"],
-        "tells more of a command, with an example",
-    )?;
-    push_row(
-        text,
-        program,
-        &["help", "STATUS"],
-        "what a status means, by its number or by what was printed",
-    )?;
-    if !program.has_faults {
-        return push_row(text, program, &["version"], "prints what program this is");
-    }
-    push_row(
-        text,
-        program,
-        &["help", "FAULT"],
-        "shows a text with a fault, as Duplicate, and the same mended",
-    )?;
-    push_row(text, program, &["version"], "prints what program this is")
-}
-
-/// Appends what is typed for a command, and what it does. It is false if there is no such command.
-fn push_command(text: &mut String, program: &Program, name: &str) -> Result<bool, AllocError> {
-    let mut found = false;
-    for command in program.commands {
-        if command.words.first() == Some(&name) {
-            found = true;
-            push_usage(text, program, command)?;
+    for (words, does) in OWN {
+        if program.has_faults || words[1..] != ["FAULT"] {
+            push_row(text, program, words, does)?;
         }
     }
-    if found && program.has_faults {
-        push_topics(text, Kind::Command, name)?;
-    }
-    Ok(found)
+    push_pages(text, rt, alloc, program)
 }
 
-/// Appends how a command is called, what it does, and an example.
-fn push_usage(text: &mut String, program: &Program, command: &Command) -> Result<(), AllocError> {
-    text.push_str("usage: ")?;
-    push_words(text, program, command.words)?;
-    text.push('\n')?;
-    text.push_str(command.does)?;
-    text.push_str("\nexample: ")?;
-    text.push_str(program.name)?;
-    text.push(' ')?;
-    text.push_str(command.example)?;
+/// What the programs tell of themselves.
+const OWN: [(&[&str], &str); 4] = [
+    (
+        &["help", "COMMAND"],
+        "tells more of a command, with an example",
+    ),
+    (
+        &["help", "STATUS"],
+        "says what a status means, by its number or by what was printed, as BAD WORDS",
+    ),
+    (
+        &["help", "FAULT"],
+        "shows a text with a fault, as Duplicate, and the same mended",
+    ),
+    (&["version"], "says what program this is"),
+];
+
+/// Appends which page says more, and where the pages and the examples lie.
+fn push_pages<R: Files + AllocGlobal>(
+    text: &mut String,
+    rt: &R,
+    alloc: Global,
+    program: &Program,
+) -> Result<(), AllocError> {
+    text.push_str(program.page)?;
+    text.push_str(" says more.")?;
+    if let Some(tree) = tree_of(rt, alloc) {
+        text.push_str(" docs/ and examples/ lie in ")?;
+        push_name(text, tree.as_str())?;
+        text.push('.')?;
+    }
     text.push('\n')
+}
+
+/// Appends how a command is called, what it does, and an example. It is false if there is no such command.
+fn push_command(
+    text: &mut String,
+    program: &Program,
+    name: &str,
+    tree: Option<&str>,
+) -> Result<bool, AllocError> {
+    if !program
+        .commands
+        .iter()
+        .any(|command| command.words.first() == Some(&name))
+    {
+        return Ok(false);
+    }
+    push_usages(text, program, name)?;
+    if !program.has_faults || !push_topics(text, Kind::Command, name)? {
+        push_deeds(text, program, name)?;
+    }
+    push_examples(text, program, name, tree)?;
+    if program.need_seal.contains(&name) {
+        text.push_str(
+            "it needs a sealed store in the folder; taxi seal TARIFF PARAMS makes one\n",
+        )?;
+    }
+    text.push_str("more: ")?;
+    text.push_str(program.page)?;
+    text.push('\n')?;
+    Ok(true)
+}
+
+/// Appends how a command is called.
+fn push_usages(text: &mut String, program: &Program, name: &str) -> Result<(), AllocError> {
+    for command in program.commands {
+        if command.words.first() == Some(&name) {
+            text.push_str("usage: ")?;
+            push_words(text, program, command.words)?;
+            text.push('\n')?;
+        }
+    }
+    Ok(())
+}
+
+/// Appends what a command does, in a line.
+fn push_deeds(text: &mut String, program: &Program, name: &str) -> Result<(), AllocError> {
+    for command in program.commands {
+        if command.words.first() == Some(&name) {
+            text.push_str(command.does)?;
+            text.push('\n')?;
+        }
+    }
+    Ok(())
+}
+
+/// Appends the examples of a command, for a folder of one's own.
+fn push_examples(
+    text: &mut String,
+    program: &Program,
+    name: &str,
+    tree: Option<&str>,
+) -> Result<(), AllocError> {
+    for command in program.commands {
+        if command.words.first() == Some(&name) {
+            text.push_str("example, from a folder of your own: ")?;
+            text.push_str(program.name)?;
+            push_example(text, command.example, tree)?;
+            text.push('\n')?;
+        }
+    }
+    Ok(())
 }
 
 /// Whether one asks for something by this name: the name itself, or with more words behind it.
@@ -125,21 +195,17 @@ fn is_one_of(asked: &str, names: &str) -> bool {
 
 /// Appends what is told of the words behind `help`: of a command, a refusal, a fault or a status. It is false if there
 /// is nothing of this name.
-pub(crate) fn push_help_about(
+pub(crate) fn push_help_about<R: Files + AllocGlobal>(
     text: &mut String,
+    rt: &R,
     alloc: Global,
     program: &Program,
     words: &[String],
 ) -> Result<bool, AllocError> {
-    let mut asked = String::new(alloc);
-    for word in words {
-        if !asked.is_empty() {
-            asked.push(' ')?;
-        }
-        asked.push_str(word.as_str())?;
-    }
+    let asked = joined(alloc, words)?;
+    let tree = tree_of(rt, alloc);
     let asked = asked.as_str();
-    if push_command(text, program, asked)? {
+    if push_command(text, program, asked, tree.as_deref())? {
         return Ok(true);
     }
     if !program.has_faults {
@@ -152,22 +218,40 @@ pub(crate) fn push_help_about(
     )
 }
 
-/// Appends the refusals that are asked for; all, if only `REFUSED` is.
+/// Words with a blank between two.
+fn joined(alloc: Global, words: &[String]) -> Result<String, AllocError> {
+    let mut text = String::new(alloc);
+    for word in words {
+        if !text.is_empty() {
+            text.push(' ')?;
+        }
+        text.push_str(word.as_str())?;
+    }
+    Ok(text)
+}
+
+/// Appends the refusals that are asked for, by their names or by the beginnings of these. It is false if there is none.
 fn push_refusals(text: &mut String, asked: &str) -> Result<bool, AllocError> {
-    if !is_asked(asked, "REFUSED") {
-        return Ok(false);
-    }
-    text.push_str(
-        "the meter refuses the event and goes on (docs/METER.md, \"Operating positions\"):\n",
-    )?;
-    if push_topics(text, Kind::Refusal, asked)? {
-        return Ok(true);
-    }
+    let asked = asked.strip_suffix(" ..").unwrap_or(asked);
+    let mut found = false;
     for place in 0..MOST {
         let Some(refusal) = topic_at(Kind::Refusal, place) else {
-            return Ok(true);
+            return Ok(found);
         };
-        text.push_str(refusal.text)?;
+        if is_asked(asked, refusal.names) || is_asked(refusal.names, asked) {
+            push_refusal(text, refusal.text, found)?;
+            found = true;
+        }
     }
-    Ok(true)
+    Ok(found)
+}
+
+/// Appends a refusal, the first one behind what a refusal is.
+fn push_refusal(text: &mut String, refusal: &str, found: bool) -> Result<(), AllocError> {
+    if !found {
+        text.push_str(
+            "the meter refuses the event and goes on (docs/METER.md, \"Operating positions\"):\n",
+        )?;
+    }
+    text.push_str(refusal)
 }

@@ -29,7 +29,7 @@ impl Moment {
 }
 
 /// Whether a name leads to a plain file that hasn't changed since a moment.
-pub(crate) fn is_unchanged<R: Files>(rt: &R, name: &str, since: Moment) -> bool {
+pub fn is_unchanged<R: Files>(rt: &R, name: &str, since: Moment) -> bool {
     match fs::metadata(rt, name) {
         Ok(found) => found.is_file() && since.is_not_before(found.ctime(), found.ctime_nsec()),
         Err(_) => false,

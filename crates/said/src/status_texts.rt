@@ -24,7 +24,7 @@ fn taxi_status_2() -> Topic {
         names: "2|BAD TARIFF|BAD OTHER",
         text: "status 2, printed last: BAD TARIFF .., BAD OTHER ..\nwhat to do: mend the first tariff, or the \
 second; taxi help FAULT and docs/TARIFF.md say what the fault is\ncommands: check, faults, form, \
-tables, lines, rates, compare, fare, seal, run, bench, explain, story\nmore: \
+tables, lines, rates, near, compare, fare, seal, run, bench, explain, story\nmore: \
 docs/use/COMMANDS.md\n",
     }
 }
@@ -183,7 +183,17 @@ fn taxi_status_19() -> Topic {
     Topic {
         names: "125",
         text: "status 125\nwhat to do: see the last lines: nothing was built, FOLDER can't be entered, or --now \
-took too long\ncommands: taxi alone\nmore: docs/use/COMMANDS.md\n",
+built nothing\ncommands: a checkout's scripts alone\nmore: docs/use/COMMANDS.md\n",
+    }
+}
+
+/// A status of the taximeter.
+fn taxi_status_20() -> Topic {
+    Topic {
+        names: "126|127|129|130|131|132|133|134|135|136|137|138|139|140|141|142|143|144|145|146|147|148|149|150|151|152|153|154|155|156|157|158|159",
+        text: "status above 125\nwhat to do: the program was ended from outside: the status is 128 and the \
+signal's number, 130 by Ctrl-C, 137 by a kill. After run see \"A run that broke off\"; else type \
+the command again\ncommands: all\nmore: docs/use/COMMANDS.md\n",
     }
 }
 
@@ -210,6 +220,7 @@ pub(crate) fn taxi_status(place: usize) -> Option<Topic> {
         17 => Some(taxi_status_17()),
         18 => Some(taxi_status_18()),
         19 => Some(taxi_status_19()),
+        20 => Some(taxi_status_20()),
         _ => None,
     }
 }
@@ -264,8 +275,8 @@ filed\nmore: docs/use/HIRING_LOG.md\n",
 fn log_status_5() -> Topic {
     Topic {
         names: "5|ROLL TOO LONG",
-        text: "status 5, printed last: ROLL TOO LONG\nwhat to do: part the roll; what was read of it is filed\n\
-more: docs/use/HIRING_LOG.md\n",
+        text: "status 5, printed last: ROLL TOO LONG\nwhat to do: part the roll; what was read of it is filed, \
+or printed by rows\nmore: docs/use/HIRING_LOG.md\n",
     }
 }
 
@@ -274,7 +285,7 @@ fn log_status_6() -> Topic {
     Topic {
         names: "7|READ FAULT",
         text: "status 7, printed last: READ FAULT\nwhat to do: see that the roll is there and may be read; what \
-was read of it is filed\nmore: docs/use/HIRING_LOG.md\n",
+was read of it is filed, or printed by rows\nmore: docs/use/HIRING_LOG.md\n",
     }
 }
 
@@ -306,6 +317,15 @@ docs/use/HIRING_LOG.md\n",
     }
 }
 
+/// A status of the hiring log.
+fn log_status_10() -> Topic {
+    Topic {
+        names: "126|127|129|130|131|132|133|134|135|136|137|138|139|140|141|142|143|144|145|146|147|148|149|150|151|152|153|154|155|156|157|158|159",
+        text: "status above 125\nwhat to do: the program was ended from outside: the status is 128 and the \
+signal's number. Type the command again\nmore: docs/use/HIRING_LOG.md\n",
+    }
+}
+
 /// Each of these by its place.
 pub(crate) fn log_status(place: usize) -> Option<Topic> {
     match place {
@@ -319,6 +339,7 @@ pub(crate) fn log_status(place: usize) -> Option<Topic> {
         7 => Some(log_status_7()),
         8 => Some(log_status_8()),
         9 => Some(log_status_9()),
+        10 => Some(log_status_10()),
         _ => None,
     }
 }

@@ -1,4 +1,5 @@
 //! What a status means, and what to do.
+use crate::table::Program;
 use std::alloc::AllocError;
 
 /// What the drive of a run that broke off may have come to.
@@ -11,11 +12,14 @@ const BROKEN_SEALING: &str =
     "the store may have the old seal or the new one: look at taxi sealed and taxi totals, then \
 seal again";
 
-/// What to do where a call of the board failed, given the command.
-pub(crate) fn after_failure(command: &str) -> &'static str {
+/// What to do where a call of the board failed, given the command, whether the store was read before, and whether it is
+/// there.
+pub(crate) fn after_failure(command: &str, has_begun: bool, is_there: bool) -> &'static str {
     match command {
+        "run" | "seal" | "file" if !has_begun => "nothing was begun; see to that and try again",
         "run" => BROKEN_RUN,
-        "seal" => BROKEN_SEALING,
+        "seal" if is_there => BROKEN_SEALING,
+        "seal" => "there is no store; see to that and seal again",
         _ => "see to that and try again",
     }
 }
@@ -63,9 +67,15 @@ those rows of the report",
     }
 }
 
-/// What a status of the hiring log means; but of 1 and 8.
-pub(crate) fn meaning_of_log(status: u8) -> &'static str {
+/// What a status of the hiring log means, given the command; but of 1 and 8.
+pub(crate) fn meaning_of_log(status: u8, command: &str) -> &'static str {
     match status {
+        5 if command == "rows" => {
+            "the roll has 2^40 bytes or more; part it; the rows of the receipts that were read are printed"
+        }
+        7 if command == "rows" => {
+            "the roll is not there or cannot be read; see to it; the rows of what was read of it are printed"
+        }
         2 => "taxi.log has a damaged slot; keep a copy of it and see docs/STORE.md",
         3 => {
             "the receipts in taxi.log do not belong to one log; keep a copy, move the file away, \
@@ -87,4 +97,14 @@ the folder of that taxi"
 /// Appends the beginning of what is said of a status.
 pub(crate) fn push_status(text: &mut String, name: &str, status: u8) -> Result<(), AllocError> {
     write!(text, "{name}: status {status}: ")
+}
+
+/// What is said of words that the system didn't hand over whole, given the status.
+pub fn no_words(program: &Program, status: u8) -> &'static str {
+    match (program.has_faults, status) {
+        (true, 1) => "taxi: status 1: a word is no text in UTF-8\n",
+        (true, _) => "taxi: status 12: there was not enough memory for the words\n",
+        (false, 1) => "hiring_log: status 1: a word is no text in UTF-8\n",
+        (false, _) => "hiring_log: status 12: there was not enough memory for the words\n",
+    }
 }

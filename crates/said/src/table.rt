@@ -1,5 +1,6 @@
 //! The commands of the programs.
 use crate::texts::{LOG_LAYOUTS, TAXI_LAYOUTS};
+use outside::{LOG_SIZE, STORE_SIZE};
 
 /// A command of a program: its words, those in capitals in the place of others; what it does, and what for; and an
 /// example's words.
@@ -11,15 +12,18 @@ pub(crate) struct Command {
     pub(crate) example: &'static str,
 }
 
-/// A program: what it is called, its commands, whether it tells of faults of texts, the layouts
-/// of its store that it reads, and the store's name.
+/// A program: what it is called, its commands, those of them that find nothing to do without a sealed store, whether it
+/// tells of faults of texts, its page, the layouts of its store that it reads, the store's name and its bytes.
 #[derive(Clone, Copy)]
 pub struct Program {
     pub(crate) name: &'static str,
     pub(crate) commands: &'static [Command],
+    pub(crate) need_seal: &'static [&'static str],
     pub(crate) has_faults: bool,
+    pub(crate) page: &'static str,
     pub(crate) layouts: &'static str,
     pub(crate) store: &'static str,
+    pub(crate) size: u64,
 }
 
 /// The taximeter.
@@ -55,6 +59,18 @@ pub const TAXI: Program = Program {
             does: "says of each line when it is first the one that counts, or never",
             purpose: "write a tariff",
             example: "lines examples/city.tariff 10000",
+        },
+        Command {
+            words: &["rates", "TARIFF", "CONSTANT"],
+            does: "says how fine a constant is for each rate in mode S, and which ones next to it are fine",
+            purpose: "write a tariff",
+            example: "rates examples/city.tariff 2500",
+        },
+        Command {
+            words: &["near", "TARIFF"],
+            does: "prints the tariff with the nearest amounts for one pair of measures, so that it can be compiled",
+            purpose: "write a tariff",
+            example: "near examples/simple.tariff",
         },
         Command {
             words: &["compare", "TARIFF", "OTHER", "CONSTANT"],
@@ -147,9 +163,12 @@ pub const TAXI: Program = Program {
             example: "bench examples/city.tariff examples/morning.drive examples/morning.readings",
         },
     ],
+    need_seal: &["run", "bench", "totals", "port", "mark", "shifts", "sealed"],
     has_faults: true,
+    page: "docs/use/COMMANDS.md",
     layouts: TAXI_LAYOUTS,
     store: "taxi.store",
+    size: STORE_SIZE as u64,
 };
 
 /// The hiring log.
@@ -168,8 +187,17 @@ pub const HIRING_LOG: Program = Program {
             purpose: "keep receipts",
             example: "show",
         },
+        Command {
+            words: &["rows", "ROLL"],
+            does: "prints the receipts of a roll as rows of CSV, without a log",
+            purpose: "keep receipts",
+            example: "rows examples/torn.roll",
+        },
     ],
+    need_seal: &[],
     has_faults: false,
+    page: "docs/use/HIRING_LOG.md",
     layouts: LOG_LAYOUTS,
     store: "taxi.log",
+    size: LOG_SIZE as u64,
 };

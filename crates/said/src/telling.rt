@@ -2,8 +2,9 @@
 use crate::failures::push_failure;
 use crate::fault_lines::{Fault, fault_in};
 use crate::files::{push_why_unreadable, read_file};
+use crate::help::push_help;
 use crate::places::{Moment, is_unchanged, line_of, push_place};
-use crate::rows::line_of_row;
+use crate::rows::row_of;
 use crate::statuses::{meaning, meaning_of_log, push_status};
 use crate::table::Program;
 use crate::words::{nearest, push_wrong_words};
@@ -14,7 +15,7 @@ use std::str;
 
 /// What the status of a call means that ended with another one than 0, and where the fault lies, in lines for the
 /// standard error. None if there is no memory for it.
-pub(crate) fn told_of<R: Files>(
+pub(crate) fn told_of<R: Files + AllocGlobal>(
     rt: &R,
     alloc: Global,
     program: &Program,
@@ -48,7 +49,7 @@ impl Call<'_> {
 }
 
 /// Appends what the status of a call means, and where the fault lies.
-fn push_call<R: Files>(
+fn push_call<R: Files + AllocGlobal>(
     text: &mut String,
     rt: &R,
     alloc: Global,
@@ -56,6 +57,9 @@ fn push_call<R: Files>(
     call: &Call<'_>,
 ) -> Result<(), AllocError> {
     let command = call.command();
+    if call.words.is_empty() && call.status == 1 {
+        return push_help(text, rt, alloc, program);
+    }
     push_status(text, program.name, call.status)?;
     if call.status == 1 {
         push_wrong_words(text, program, call.words)?;
@@ -64,16 +68,20 @@ fn push_call<R: Files>(
     if call.status == 8
         && let Some(failure) = call.heard.failure()
     {
-        return push_failure(text, program.store, command, &failure);
+        let has_begun = call.heard.seals().is_some();
+        return push_failure(text, rt, alloc, program, command, &failure, has_begun);
     }
     if !program.has_faults {
-        text.push_str(meaning_of_log(call.status))?;
+        text.push_str(meaning_of_log(call.status, command))?;
     } else {
         text.push_str(meaning(call.status, command))?;
     }
     text.push('\n')?;
     if call.status == 7 {
         return push_unreadable(text, rt, program, call.words);
+    }
+    if command == "faults" {
+        return Ok(());
     }
     push_fault(text, rt, alloc, command, call)
 }
@@ -108,27 +116,35 @@ fn push_line_at_fault<R: Files>(
     name: &str,
     fault: &Fault<'_>,
 ) -> Result<(), AllocError> {
-    let number = if fault.counts_rows {
-        read_file(rt, alloc, name, LONGEST_READINGS).and_then(|bytes| line_of_row(
-            alloc,
-            bytes.as_slice(),
-            fault.number,
-        ))
-    } else {
-        Some(fault.number)
-    };
-    let Some(number) = number else {
-        return Ok(());
-    };
-    match line_of(rt, alloc, name, number) {
+    if fault.counts_rows {
+        return push_row_at_fault(text, rt, alloc, name, fault.number);
+    }
+    match line_of(rt, alloc, name, fault.number) {
         Ok(Some(line)) => push_place(
             text,
             name,
-            number,
+            fault.number,
             line.bytes.as_slice(),
             line.ended || !fault.wants_end,
         ),
         _ => Ok(()),
+    }
+}
+
+/// Appends the row of a table at which a fault is.
+fn push_row_at_fault<R: Files>(
+    text: &mut String,
+    rt: &R,
+    alloc: Global,
+    name: &str,
+    number: u64,
+) -> Result<(), AllocError> {
+    let Some(bytes) = read_file(rt, alloc, name, LONGEST_READINGS) else {
+        return Ok(());
+    };
+    match row_of(alloc, bytes.as_slice(), number) {
+        Some(row) => push_place(text, name, row.line, row.bytes, true),
+        None => Ok(()),
     }
 }
 

@@ -39,6 +39,13 @@ pub(crate) const TAXI_LAYOUTS: &str = "taxi.store, totals of layout 1 or 2, seal
 /// The layouts of the store that are read.
 pub(crate) const LOG_LAYOUTS: &str = "taxi.log of layout 1";
 
+/// The faults that texts may have.
+pub(crate) const FAULTS: &str =
+    "AmountTooBig, BAD BOOK, BAD DRIVE, BAD READINGS, BadDate, BadLine, BadValue, Duplicate, \
+LineAfterDefault, MeasureZero, Missing, NoCommonMeasure, NoDefaultInitial, NoDefaultRate, \
+NoStep, SameMonth, StepZero, Syntax, TooLong, TooManyCells, TooManyCuts, TooManyLines, Twice, \
+Unknown, UnknownNumber";
+
 /// A command of the taximeter, told further.
 fn command_0() -> Topic {
     Topic {
@@ -51,7 +58,7 @@ fn command_0() -> Topic {
 fn command_1() -> Topic {
     Topic {
         names: "faults",
-        text: "Names every fault of a tariff. taxi shows each line at fault:\n",
+        text: "Names every fault of a tariff, and shows each line at fault on standard error:\n",
     }
 }
 
@@ -95,6 +102,18 @@ down and up,\nunder which that is at most 10 percent for all rates.\n",
 /// A command of the taximeter, told further.
 fn command_6() -> Topic {
     Topic {
+        names: "near",
+        text: "Prints the same tariff by the nearest amounts for one pair of measures, the same for all rates. \
+A\ntariff whose measures have nothing in common, as a town's mostly have, can't be compiled\n\
+(NoCommonMeasure); what near prints of it can be. The first line, a comment, says how far an \
+amount\nis off, at most. docs/TARIFF.md, \"Rates\", says what that is on a fare, and \
+docs/CITIES.md has one of\nLondon's kind.\n",
+    }
+}
+
+/// A command of the taximeter, told further.
+fn command_7() -> Topic {
+    Topic {
         names: "compare",
         text: "Prints SAME, or what differs first between two tariffs under a constant, with the line of each\n\
 (docs/TARIFF.md, \"Two tariffs that are the same\"):\n",
@@ -102,7 +121,7 @@ fn command_6() -> Topic {
 }
 
 /// A command of the taximeter, told further.
-fn command_7() -> Topic {
+fn command_8() -> Topic {
     Topic {
         names: "fare",
         text: "Prints the displays and refusals of a drive, without a store: in mode S, with trips held for 60 \
@@ -111,7 +130,7 @@ s,\nand local time as UTC.\n",
 }
 
 /// A command of the taximeter, told further.
-fn command_8() -> Topic {
+fn command_9() -> Topic {
     Topic {
         names: "seal",
         text: "Seals taxi.store with a tariff and the secured parameters, and prints the number of the seal. \
@@ -127,7 +146,7 @@ or the new one, and its totals.\n",
 }
 
 /// A command of the taximeter, told further.
-fn command_9() -> Topic {
+fn command_10() -> Topic {
     Topic {
         names: "run",
         text: "Carries out a drive on the sealed store: prints displays, refusals and receipts, and keeps \
@@ -139,7 +158,7 @@ up to there. run .. | head ends with 8 and loses the\nrest of the drive, so prin
 }
 
 /// A command of the taximeter, told further.
-fn command_10() -> Topic {
+fn command_11() -> Topic {
     Topic {
         names: "bench",
         text: "Judges the readings that were taken at a meter by what a drive should come to under the seal, \
@@ -148,7 +167,7 @@ with a\nverdict for each hiring.\n",
 }
 
 /// A command of the taximeter, told further.
-fn command_11() -> Topic {
+fn command_12() -> Topic {
     Topic {
         names: "explain",
         text: "Says why the fare of each hiring that a drive closes is what it is: which lines counted, what \
@@ -158,7 +177,7 @@ sealed\nprinted. A trip that is still held isn't explained.\n",
 }
 
 /// A command of the taximeter, told further.
-fn command_12() -> Topic {
+fn command_13() -> Topic {
     Topic {
         names: "story",
         text: "Tells what happened in each hiring that a drive closes: which line charged from when, stops, \
@@ -168,7 +187,7 @@ are those of\nexplain.\n",
 }
 
 /// A command of the taximeter, told further.
-fn command_13() -> Topic {
+fn command_14() -> Topic {
     Topic {
         names: "totals",
         text: "Prints the totals of the store, whether it holds a trip, its layout, and the shares of each \
@@ -177,11 +196,53 @@ tariff\nposition.\n",
 }
 
 /// A command of the taximeter, told further.
-fn command_14() -> Topic {
+fn command_15() -> Topic {
     Topic {
         names: "sealed",
         text: "Prints what the store was sealed with, as a text of parameters with which another meter can be\n\
-sealed.\nconsole $ taxi sealed | sed -n '3,5p;$p'\n",
+sealed.\n",
+    }
+}
+
+/// A command of the taximeter, told further.
+fn command_16() -> Topic {
+    Topic {
+        names: "port",
+        text: "Answers framed requests for stored data, in bytes (docs/use/DATA_PORT.md).\n",
+    }
+}
+
+/// A command of the taximeter, told further.
+fn command_17() -> Topic {
+    Topic {
+        names: "gen",
+        text: "Makes a large drive of N trips from a number, carries it out on a store in memory, and prints \
+what\nit comes to. Use it to try a build.\n",
+    }
+}
+
+/// A command of the taximeter, told further.
+fn command_18() -> Topic {
+    Topic {
+        names: "offsets",
+        text: "Prints the offset lines of parameters for at most fifteen years, from a yearly rule for summer \
+time.\n",
+    }
+}
+
+/// A command of the taximeter, told further.
+fn command_19() -> Topic {
+    Topic {
+        names: "mark",
+        text: "Print the mark by which a driver signs on, or whoever is on signs off.\n",
+    }
+}
+
+/// A command of the taximeter, told further.
+fn command_20() -> Topic {
+    Topic {
+        names: "shifts",
+        text: "Prints what the totals grew by in each shift of a book of marks (docs/use/SHIFT_BOOK.md).\n",
     }
 }
 
@@ -203,6 +264,12 @@ pub(crate) fn command(place: usize) -> Option<Topic> {
         12 => Some(command_12()),
         13 => Some(command_13()),
         14 => Some(command_14()),
+        15 => Some(command_15()),
+        16 => Some(command_16()),
+        17 => Some(command_17()),
+        18 => Some(command_18()),
+        19 => Some(command_19()),
+        20 => Some(command_20()),
         _ => None,
     }
 }

@@ -2,6 +2,7 @@
 use crate::files::read_file;
 use crate::table::Program;
 use crate::texts::VERSION;
+use crate::tree::tree_of;
 use sha2::{Digest, Sha256};
 use std::alloc::{AllocError, Global};
 use std::env;
@@ -71,7 +72,11 @@ pub(crate) fn push_version<R: Files + AllocGlobal>(
     push_line(text, "commit:", commit.unwrap_or("unknown"))?;
     push_line(text, "program: SHA-256", digest.as_str())?;
     push_line(text, "kit:", kit.unwrap_or("unknown"))?;
-    push_line(text, "store:", program.layouts)
+    push_line(text, "store:", program.layouts)?;
+    match tree_of(rt, alloc) {
+        Some(tree) => write!(text, "pages: {tree}/docs\n"),
+        None => Ok(()),
+    }
 }
 
 /// Appends a line of a word and what it says.

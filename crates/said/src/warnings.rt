@@ -217,3 +217,30 @@ pub(crate) fn second_of_date(date: &str) -> Option<u64> {
     }
     Some(day_number(year, month, date)? as u64 * DAY)
 }
+
+/// What is said behind a filing of the receipts that it passed over, given how many receipts the roll has, if that could
+/// be counted. None if it passed over none, or if there is no memory for it.
+pub fn passed_over(alloc: Global, heard: &Heard, receipts: Option<u64>) -> Option<String> {
+    let mut text = String::new(alloc);
+    let passed = receipts.and_then(|receipts| receipts.checked_sub(filed_in(heard.printed())?));
+    match passed {
+        Some(0) => return None,
+        Some(passed) => write!(
+            text,
+            "hiring_log: whole receipts of the roll that were passed over: {passed} (docs/use/HIRING_LOG.md, \"What is passed over\")\n"
+        )
+        .ok()?,
+        None => text
+            .push_str(
+                "hiring_log: what was passed over of the roll was not counted: it is no plain file, or was written meanwhile\n",
+            )
+            .ok()?,
+    }
+    Some(text)
+}
+
+/// How many receipts a line of a filing says that it filed.
+fn filed_in(line: &[u8]) -> Option<u64> {
+    let line = str::from_utf8(line).ok()?;
+    line.strip_prefix("FILED ")?.trim_end().parse().ok()
+}

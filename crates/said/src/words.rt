@@ -115,14 +115,47 @@ pub(crate) fn push_wrong_words(
     program: &Program,
     words: &[String],
 ) -> Result<(), AllocError> {
-    let Some(command) = nearest(words, program) else {
-        text.push_str("no such command; ")?;
-        text.push_str(program.name)?;
-        return text.push_str(" help lists them");
+    let (Some(command), Some(first)) = (nearest(words, program), words.first()) else {
+        return push_unknown(text, program, words);
     };
     push_off(text, words, command)?;
-    text.push_str("; usage: ")?;
-    push_words(text, program, command.words)
+    text.push_str("; usage:")?;
+    push_rows(text, program, first.as_str())
+}
+
+/// Appends each row of a command, behind a blank.
+fn push_rows(text: &mut String, program: &Program, first: &str) -> Result<(), AllocError> {
+    let mut count = 0usize;
+    for command in program.commands {
+        if command.words.first() == Some(&first) {
+            push_between(text, count)?;
+            push_words(text, program, command.words)?;
+            count = count.saturating_add(1);
+        }
+    }
+    Ok(())
+}
+
+/// Appends what stands before a row, of which there are so many before it.
+fn push_between(text: &mut String, count: usize) -> Result<(), AllocError> {
+    text.push_str(if count == 0 { " " } else { ", or " })
+}
+
+/// Appends that there is no such command.
+fn push_unknown(text: &mut String, program: &Program, words: &[String]) -> Result<(), AllocError> {
+    let name = program.name;
+    match words.first() {
+        Some(word) if word.as_str() == "-C" => write!(
+            text,
+            "-C is gone: type (cd FOLDER && {name} COMMAND ..); "
+        )?,
+        Some(word) if word.as_str() == "--now" => write!(
+            text,
+            "--now is for a checkout, where bin/{name} has it; "
+        )?,
+        _ => text.push_str("no such command; ")?,
+    }
+    write!(text, "{name} help lists them")
 }
 
 /// Appends which word is off beside a command.
@@ -138,7 +171,16 @@ fn push_off(text: &mut String, words: &[String], command: &Command) -> Result<()
             }
             text.push_str(range_of(wanted))
         }
-        (Some(_), None) => text.push_str("there are too many words"),
-        _ => text.push_str("there are too few words"),
+        (Some(_), None) => push_count(text, "many", command),
+        _ => push_count(text, "few", command),
+    }
+}
+
+/// Appends that there are too many words, or too few.
+fn push_count(text: &mut String, many: &str, command: &Command) -> Result<(), AllocError> {
+    write!(text, "there are too {many} words after ")?;
+    match command.words.first() {
+        Some(word) => text.push_str(word),
+        None => Ok(()),
     }
 }
