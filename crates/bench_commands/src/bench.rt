@@ -1,5 +1,7 @@
 //! The command `bench`.
 ghost use Rattle.bench_commands.specs.{Bench.{bench_command}, Common.{Carries}};
+ghost use Rattle.std.specs.Prelude.{◌≡◌};
+ghost use Rattle.store_commands.specs.SealedTariff.{MayLackTariff};
 
 use crate::judgement::judgement;
 use call_ends::{Ended, print_made};
@@ -17,8 +19,10 @@ pub fn bench<F: Files, B: Board<STORE_SIZE, L>, L: Ledger>(
     board: &mut B,
     steps: &mut Steps<L>,
 ) -> Ended
-    ensures { Carries F.Files B.Printer bench_command files.old files.new board.old board.new
+    ensures carries { Carries F.Files B.Printer bench_command files.old files.new board.old board.new
         steps.old steps.new result }
+    ensures memory { F.tells → B.tells_image → result ≡ Ended.NoMemory
+        → MayLackTariff (B.image board.old) (F.rest files.old 1) (F.rest files.new 1) }
 {
     let store = match open_sealed(board, steps) {
         Ok(store) => store,

@@ -5,6 +5,7 @@ ghost use Rattle.bench_commands.specs.Bench.{bench_command, ended_for_readings};
 ghost use Rattle.bench_commands.specs.BenchSteps.{AreRefused, IsSealedBy, ended_with, judged_pass, judged_text};
 ghost use Rattle.bench_commands.specs.Common.{FailsOr, IsRunInRange, Makes, ReadsWord, end_made, readings_in};
 ghost use Rattle.bench_commands.specs.Common.{run_events, text_made, tree_of};
+ghost use Rattle.store_commands.specs.SealedTariff.{MayLackSealed};
 
 use crate::whole_drive::read_drive;
 use call_ends::{Ended, Made};
@@ -25,8 +26,10 @@ const MOST: usize = 1_048_576;
 /// Reads the sealed tariff of word 1, the drive of word 2 and the readings of word 3, and gives what is printed of
 /// them.
 pub fn judgement<F: Files>(alloc: Global, seal: &Seal, files: &mut F) -> Result<Made, Ended>
-    ensures { (image : List ℕ) → Makes (also_told F.Files (IsSealedBy image seal.now)) bench_command image
+    ensures makes { (image : List ℕ) → Makes (also_told F.Files (IsSealedBy image seal.now)) bench_command image
         files.old files.new (text_made result) (end_made result) }
+    ensures memory { F.tells → end_made result ≡ Ended.NoMemory
+        → MayLackSealed seal.now.digest (F.rest files.old 1) (F.rest files.new 1) }
 {
     let checked = read_sealed(alloc, files, &seal.digest)?;
     let runs = read_drive(alloc, files, 2)?;

@@ -1,6 +1,7 @@
 -- The lemmas that the crates above cite.
-pub use Rattle.call_ends.proofs.{BoardRuns.{board_runs}, CallsWithoutDevices.{carries-unread}, EndsApart.{refusal_by}}
+pub use Rattle.call_ends.proofs.{BoardRuns.{board_runs}, Unwritten.{bytes-kept, bytes-read, bytes-then, reads-then}}
 pub use Rattle.call_ends.proofs.CallsWithoutDevices.{carries-kept, carries-looked, carries-said, carries-shut}
+pub use Rattle.call_ends.proofs.{CallsWithoutDevices.{carries-unread}, EndsApart.{refusal_by}, Tariffs.{lines_of_sound}}
 pub use Rattle.call_ends.proofs.{Endings.{course-unprinted, ends-with, finishes-later, may-then}, Rests.{board_or_not}}
 pub use Rattle.call_ends.proofs.EndsApart.{board_not_read, done_not_board, done_not_read, ends_apart, not_status}
 pub use Rattle.call_ends.proofs.FaultCounts.{board_counts, cause_board, cause_carried, cause_done, files_left}
@@ -17,4 +18,4 @@ pub use Rattle.call_ends.proofs.PrintedParts.{out-as, out-by, out-failed, out-ok
 pub use Rattle.call_ends.proofs.Refusals.{course-bad_tariff, course-no_memory, course-refused, ends-failing}
 pub use Rattle.call_ends.proofs.{Refusals.{ends-lacking, ends-refused}, ShownTexts.{course-unread, course-whole}}
 pub use Rattle.call_ends.proofs.ShownTexts.{Here, course-begun, course-lacking, course-part, course-shown}
-pub use Rattle.call_ends.proofs.{Streams.{not_bad}, Unwritten.{bytes-kept, bytes-read, bytes-then, reads-then}}
+pub use Rattle.call_ends.proofs.Streams.{not_bad}

@@ -1,10 +1,11 @@
 -- The sound tariff of a text that was read.
-use Rattle.std.{specs.Prelude.{◌⊎◌}, proofs.lemmas.Bool.{le-ltb}}
-use Rattle.std.proofs.Common.{ℕ, ◌∙◌, ◌≡◌, ◌≢◌, Err, List, Ok, Option, Some, ap, inl, inr, length, refl, sym}
-use Rattle.{tariff_tree.specs.declared.tariff.Tariff.{Tariff}, tariff_syntax.specs.Reads.{IsParsed}}
+use Rattle.std.{specs.Prelude.{◌⊎◌, if◌then◌else◌, nat_lt}, proofs.Common.{length, refl, sym, true}}
+use Rattle.std.proofs.Common.{ℕ, ◌∙◌, ◌≡◌, ◌≢◌, ◌≤◌, Bool, Err, List, Ok, Option, Result, Some, ap, false, inl, inr}
+use Rattle.{std.proofs.lemmas.Bool.{le-ltb, ltb-false}, tariff_tree.specs.declared.tariff.Tariff.{Tariff}}
+use Rattle.{tariff_tree.specs.Tree.{Tree}, tariff_syntax.specs.{Parsed.{tree_parsed}, Reads.{IsParsed}}}
 use Rattle.tariff_syntax.proofs.Laws.{texts_are_parsed_as_they_read-bad_line, texts_are_parsed_as_they_read-tariff}
-use Rattle.{tariff_check.specs.Faults.{fault_of}, call_ends.specs.Tariffs.{IsOfLines, sound_in, tariff_in}}
-use Rattle.call_ends.specs.{Common.{CheckFault, Refusal, Syntax, Unsound, tree_of}, Ending.{unsound_for}}
+use Rattle.{tariff_check.specs.Faults.{fault_of}, call_ends.specs.Tariffs.{IsOfLines, checked_in, sound_in, tariff_in}}
+use Rattle.call_ends.specs.{Common.{CheckFault, Refusal, Syntax, TooLong, Unsound, tree_of}, Ending.{unsound_for}}
 use Rattle.tariff_syntax.specs.declared.parsing.ParseFault.TheVariants as faults
 use Rattle.tariff_check.specs.declared.fault.CheckFault.TheVariants as checks
 use Rattle.call_ends.specs.declared.tariff.TextFault.TheVariants as texts
@@ -51,3 +52,21 @@ lines_of_tariff text t h =
 pub lines_of_starved : (text : List ℕ) → IsParsed text (Err faults.NoMemory) → IsOfLines text
 lines_of_starved text h =
     record { few = h.0; tree = h.1.0; reads = (texts_are_parsed_as_they_read-tariff text h.1.0).0 h.1.1 }
+
+-- a text that has a sound tariff is one of tariff lines
+lines_of_parsed : (text : List ℕ) (r : Result Tree ℕ) (t : Tree) → length text ≤ 65536 → tree_parsed text ≡ r
+    → checked_in r ≡ Ok t → IsOfLines text
+lines_of_parsed text (Ok tree) t few parsed is = record { few = few; tree = tree; reads = parsed }
+lines_of_parsed text (Err line) t few parsed is = absurd (let e : checked_in (Err line) ≡ Ok t = is in cc)
+
+pub lines_of_sound : (text : List ℕ) (t : Tree) → tariff_in text ≡ Ok t → IsOfLines text
+lines_of_sound text t is = by (nat_lt 65536 (length text)) refl is
+  where
+    answer : Bool → Result Tree Refusal
+    answer long = if long then Err TooLong else checked_in (tree_parsed text)
+
+    by : (long : Bool) → nat_lt 65536 (length text) ≡ long → answer (nat_lt 65536 (length text)) ≡ Ok t
+        → IsOfLines text
+    by true e found = absurd (let none : answer true ≡ Ok t = ap answer (sym e) ∙ found in cc)
+    by false e found =
+        lines_of_parsed text (tree_parsed text) t (ltb-false 65536 (length text) e) refl (ap answer (sym e) ∙ found)

@@ -1,6 +1,7 @@
 //! The command `run`.
 ghost use Rattle.std.specs.{Option.{ForSome}, Prelude.{ℕ, ◌+◌, ◌↔◌, ◌≡◌, ◌≤◌, Err, IfErr, IfOk, IsTrue, List, Ok}};
-ghost use Rattle.{call_ends.specs.Reads.{ReadsWord}, store_commands.specs.TariffSteps.{AreNoTables}};
+ghost use Rattle.{call_ends.specs.Reads.{ReadsWord}, store_commands.specs.SealedTariff.{MayLackSealed, MayLackTariff}};
+ghost use Rattle.store_commands.specs.TariffSteps.{AreNoTables};
 ghost use Rattle.drive_commands.specs.Common.{Carries, Fits, Rose, opening_in, store_of};
 ghost use Rattle.drive_commands.specs.Run.{does_hold_fit, run_command};
 ghost use Rattle.drive_commands.specs.RunSteps.{AreSealedTables, HasBegun, HasNotBegun, RunReachesLine};
@@ -24,6 +25,8 @@ fn read_tables<F: Files>(alloc: Global, files: &mut F, seal: &Seal) -> Result<Ta
     ensures constant { IfOk result (λ tables. tables.constant ≡ seal.now.params.constant) }
     ensures refused { (why : Ended) → F.tells → result ≡ Err why
         → AreNoTables seal.now.digest (F.rest files.old 1) (Rose (F.faults files.old 1) (F.faults files.new 1)) why }
+    ensures memory { F.tells → result ≡ Err Ended.NoMemory
+        → MayLackSealed seal.now.digest (F.rest files.old 1) (F.rest files.new 1) }
     ensures reads { ReadsWord F.Files 1 files.old files.new result }
 {
     let checked = read_sealed(alloc, files, &seal.digest)?;
@@ -57,6 +60,8 @@ fn begin<F: Files, L: Ledger>(
     ensures constant { IfOk result (λ tables. tables.constant ≡ seal.now.params.constant) }
     ensures refused { (image : List ℕ) → F.tells → store_of (opening_in image) ≡ Ok (durable.now, seal.now)
         → IfErr result (HasNotBegun image (F.rest files.old 1) (Rose (F.faults files.old 1) (F.faults files.new 1))) }
+    ensures memory { F.tells → result ≡ Err Ended.NoMemory
+        → MayLackSealed seal.now.digest (F.rest files.old 1) (F.rest files.new 1) }
     ensures reads { ReadsWord F.Files 1 files.old files.new result }
     ensures steps { steps.new ≤ steps.old + 16 }
 {
@@ -76,6 +81,8 @@ pub fn run<F: Files, B: Board<STORE_SIZE, L>, L: Ledger>(
 ) -> Ended
     ensures carries { Carries F.Files B.Printer run_command files.old files.new board.old board.new
         steps.old steps.new result }
+    ensures memory { F.tells → B.tells_image → result ≡ Ended.NoMemory
+        → MayLackTariff (B.image board.old) (F.rest files.old 1) (F.rest files.new 1) }
     ensures runs { F.tells → B.tells_image
         → RunReachesLine F.Files B.Printer files.old files.new board.old board.new result }
 {

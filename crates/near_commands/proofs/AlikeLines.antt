@@ -45,8 +45,12 @@ module _ (f : RateNumbers → RateNumbers) (N : ℕ → ℕ → Type 0) where
   count_alike p q same (l ∷ ls) (m ∷ ms) alike =
       let here : q m.entry ≡ p l.entry = ap q alike.0 ∙ same l.entry in
       let rest = count_alike p q same ls ms alike.2 in
-      rw (sum_by-cons (λ (x : Line). cond (q x.entry) 1 0) m ms, sum_by-cons (λ (x : Line). cond (p x.entry) 1 0) l ls,
-      here, rest) refl
+      rw (
+        sum_by-cons (λ (x : Line). cond (q x.entry) 1 0) m ms,
+        sum_by-cons (λ (x : Line). cond (p x.entry) 1 0) l ls,
+        here,
+        rest,
+      ) refl
 
   pub flat_alike : {A : Type 0} (g : Entry → List A) → ((x : Entry) → g (with_rate f x) ≡ g x)
       → (ls ms : List Line) → AreAlike ls ms
@@ -103,8 +107,11 @@ conditions_are_parts part [] = refl
 conditions_are_parts {V} part (l ∷ ls) = by (part l.entry) (conditions_are_parts part ls)
   where
     by : (o : Option V) → conditions_of (choices part ls) ≡ parts (condition_part part) ls
-        → conditions_of (cons_option (option_map (λ (value : V). record { value = value; when = when_part l.entry;
-        line = l.line }) o) (choices part ls))
+        → conditions_of (cons_option (option_map (λ (value : V). record {
+          value = value;
+          when = when_part l.entry;
+          line = l.line;
+        }) o) (choices part ls))
         ≡ cons_option (option_map (λ (value : V). when_part l.entry) o) (parts (condition_part part) ls)
     by None rest = rest
     by (Some value) rest = ap (λ (xs : List (Option Condition)). when_part l.entry ∷ xs) rest

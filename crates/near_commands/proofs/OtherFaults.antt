@@ -79,5 +79,12 @@ module _ (f : RateNumbers → RateNumbers) (N : ℕ → ℕ → Type 0) (ls ms :
 
   pub alike_cells : cells_of ms ≡ cells_of ls
   alike_cells =
-      rw (alike_positions, alike_zones, alike_holidays, alike_count MonthDay, alike_count Minute,
-      alike_count Distance, alike_count Time) refl
+      rw (
+        alike_positions,
+        alike_zones,
+        alike_holidays,
+        alike_count MonthDay,
+        alike_count Minute,
+        alike_count Distance,
+        alike_count Time,
+      ) refl

@@ -52,4 +52,3 @@ same_zero ls =
     told_same plain_rate _ _ (first_alike plain_rate Same has_measure_zero has_measure_zero
     (λ before before' sofar x. rw (nothing_same x, atoms_same plain_rate x) refl)
     [] [] ls (with_rates plain_rate ls) tt (copies_alike plain_rate ls))
-

@@ -49,8 +49,12 @@ common_small : (first : ℕ) (ns : List ℕ) → All (λ n. n ≤ 1) ns → comm
 common_small first [] all = omega arith
 common_small first (n ∷ ns) all =
     let rest = common_small (lcm_of first n) ns (All-tail (λ n. n ≤ 1) n ns all) in
-    omega (arith, rest, joined (first / gcd_of first n) first n (div-le_self first (gcd_of first n))
-    (All-head (λ n. n ≤ 1) n ns all))
+    omega (
+      arith,
+      rest,
+      joined (first / gcd_of first n) first n (div-le_self first (gcd_of first n))
+          (All-head (λ n. n ≤ 1) n ns all),
+    )
   where
     joined : (quotient first n : ℕ) → quotient ≤ first → n ≤ 1 → quotient * n ≤ first
     joined quotient first zero below small = omega arith
@@ -80,9 +84,21 @@ plain_fault t =
     let f = plain_rate in
     let measure : nat_lt (10 ^ 18) (measure_of ms) ≡ false =
     le-ltb _ _ (omega (arith, common_small 1 (measures_of ms) (small ls))) in
-    rw (alike_cells f Same ls ms alike, alike_step f Same ls ms alike, same _ _ (alike_duplicate f Same ls ms alike),
-    same _ _ (alike_too_many f Same ls ms alike), same _ _ (alike_unknown f Same ls ms alike),
-    alike_rate f Same ls ms alike, alike_initial f Same ls ms alike, same _ _ (alike_after f Same ls ms alike),
-    same _ _ (alike_date f Same ls ms alike), same_great ls, same_zero ls, measure,
-    alike_count f Same ls ms alike MonthDay, alike_count f Same ls ms alike Minute,
-    alike_count f Same ls ms alike Distance, alike_count f Same ls ms alike Time) refl
+    rw (
+      alike_cells f Same ls ms alike,
+      alike_step f Same ls ms alike,
+      same _ _ (alike_duplicate f Same ls ms alike),
+      same _ _ (alike_too_many f Same ls ms alike),
+      same _ _ (alike_unknown f Same ls ms alike),
+      alike_rate f Same ls ms alike,
+      alike_initial f Same ls ms alike,
+      same _ _ (alike_after f Same ls ms alike),
+      same _ _ (alike_date f Same ls ms alike),
+      same_great ls,
+      same_zero ls,
+      measure,
+      alike_count f Same ls ms alike MonthDay,
+      alike_count f Same ls ms alike Minute,
+      alike_count f Same ls ms alike Distance,
+      alike_count f Same ls ms alike Time,
+    ) refl

@@ -11,7 +11,10 @@ numbers_are_rates (l ∷ ls) = by (rate_part l.entry) (numbers_are_rates ls)
     by : (o : Option RateNumbers) → numbers_of (numbered_rates ls) ≡ rates_of ls
         → numbers_of (cons_option (option_map (λ (r : RateNumbers). record { line = l.line; rate = r }) o)
         (numbered_rates ls))
-        ≡ values_of (cons_option (option_map (λ (value : RateNumbers). record { value = value;
-        when = when_part l.entry; line = l.line }) o) (choices rate_part ls))
+        ≡ values_of (cons_option (option_map (λ (value : RateNumbers). record {
+          value = value;
+          when = when_part l.entry;
+          line = l.line;
+        }) o) (choices rate_part ls))
     by None rest = rest
     by (Some r) rest = ap (λ (rs : List RateNumbers). r ∷ rs) rest

@@ -135,7 +135,11 @@ fn copy_lines(alloc: Global, change: Change, lines: &[TariffLine]) -> Result<Lin
 }
 
 /// A tariff, copied, with its rates changed.
-pub(crate) fn copy_tariff(alloc: Global, change: Change, tariff: &Tariff) -> Result<Tariff, NoMemory>
+pub(crate) fn copy_tariff(
+    alloc: Global,
+    change: Change,
+    tariff: &Tariff,
+) -> Result<Tariff, NoMemory>
     requires { MayChangeAll change (tree_of tariff.now).lines }
     ensures { IfOk result (λ copy. tree_of copy ≡ changed_tree change (tree_of tariff.now)) }
 {

@@ -152,8 +152,10 @@ fn text_for(
     let form = print(alloc, &near)?;
     let mut text = Vec::new(alloc);
     let line = share_line(greatest_share(measures, rates));
-    text.extend_from_slice(line.as_slice()).map_err(|_| NoMemory)?;
-    text.extend_from_slice(form.as_slice()).map_err(|_| NoMemory)?;
+    text.extend_from_slice(line.as_slice())
+        .map_err(|_| NoMemory)?;
+    text.extend_from_slice(form.as_slice())
+        .map_err(|_| NoMemory)?;
     Ok(text)
 }
 

@@ -94,7 +94,11 @@ fn rounded_up(number: u128, divisor: u128) -> u128
     ensures { result ≡ rounded_up number divisor }
 {
     let whole = number / divisor;
-    if number % divisor == 0 { whole } else { whole + 1 }
+    if number % divisor == 0 {
+        whole
+    } else {
+        whole + 1
+    }
 }
 
 /// The share by which the price of a near amount is off, in parts of 10^9, rounded up.

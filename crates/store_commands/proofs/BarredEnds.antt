@@ -16,6 +16,16 @@ board_fault-store (stores.BadSlot slot) e = absurd cc
 board_fault-store (stores.SameNumber first second) e = absurd cc
 board_fault-store stores.BoardFault e = refl
 
+-- nor want of memory
+not_memory-store : (fault : StoreFault) → store_ended fault ≢ ended.NoMemory
+not_memory-store (stores.BadSlot slot) = λ e. absurd cc
+not_memory-store (stores.SameNumber first second) = λ e. absurd cc
+not_memory-store stores.BoardFault = λ e. absurd cc
+
+pub not_memory-barred : (end : Ended) → IsBarred end → end ≢ ended.NoMemory
+not_memory-barred end (inl is) = λ e. absurd (let same : ended.NotSealed ≡ ended.NoMemory = sym is ∙ e in cc)
+not_memory-barred end (inr (fault, is)) = λ e. not_memory-store fault (sym is ∙ e)
+
 -- what is `Owed` of each of these ends holds of the one that came, if the store `Refuses` by it or the board
 module _ (Refuses Owed : Ended → Type 0) (failed : Type 0) (not_sealed : Refuses ended.NotSealed → Owed ended.NotSealed)
     (bad_slot : (slot : ℕ) → Refuses (ended.BadSlot slot) → Owed (ended.BadSlot slot))

@@ -1,11 +1,12 @@
 -- Which text is the sealed tariff, and why another has no tables.
-use Rattle.{std.specs.{Cmp.Lexicographic.{pointwise}, Prelude.{nat_eq, nat_lt}}, call_ends.specs.Tariffs.{checked_in}}
+use Rattle.{std.specs.{Cmp.Lexicographic.{pointwise}, Prelude.{nat_eq, nat_lt}}, call_ends.proofs.Laws.{lines_of_sound}}
 use Rattle.std.proofs.Common.{ℕ, ◌<◌, ◌∙◌, ◌≡◌, ◌≤◌, Bool, Err, List, Ok, Result, ap, false, if◌then◌else◌, length}
 use Rattle.{std.proofs.{Common.{refl, sym, true}, lemmas.Bool.{le-ltb, lt-ltb, ltb-false}}, sha2.specs.Sha256.{sha256}}
 use Rattle.{tariff_syntax.specs.Parsed.{tree_parsed}, call_ends.specs.declared.tariff.Refusal.TheVariants.{TooLong}}
-use Rattle.call_ends.specs.declared.tariff.TextFault.{TextFault}
+use Rattle.call_ends.specs.{Tariffs.{checked_in}, declared.tariff.TextFault.{TextFault}}
 use Rattle.store_commands.specs.Common.{Ended, IsOfLines, Refusal, Tree, ended_for, tariff_in}
-use Rattle.store_commands.specs.{SealedTariff.{accepted, sealed_tariff}, TariffSteps.{AreNoTables, IsNoTables}}
+use Rattle.store_commands.specs.SealedTariff.{HasSealedLines, accepted, sealed_tariff}
+use Rattle.store_commands.specs.TariffSteps.{AreNoTables, IsNoTables}
 use Rattle.call_ends.specs.declared.ending.Ended.TheVariants as ended
 use Rattle.call_ends.specs.declared.tariff.TextFault.TheVariants as texts
 
@@ -55,20 +56,23 @@ no_memory-text texts.ReadFault is = absurd cc
 no_memory-text (texts.Refused why) is = absurd cc
 no_memory-text texts.NoMemory is = refl
 
--- a text that has a sound tariff is one of tariff lines
-lines_of_parsed : (text : List ℕ) (r : Result Tree ℕ) (t : Tree) → length text ≤ 65536 → tree_parsed text ≡ r
-    → checked_in r ≡ Ok t → IsOfLines text
-lines_of_parsed text (Ok tree) t few parsed is = record { few = few; tree = tree; reads = parsed }
-lines_of_parsed text (Err line) t few parsed is = absurd (let e : checked_in (Err line) ≡ Ok t = is in cc)
+-- and one that is accepted as the sealed tariff has the sealed lines
+accepted_is : (r : Result Tree Refusal) (t : Tree) → accepted r ≡ Ok t → r ≡ Ok t
+accepted_is (Ok u) t is = cc
+accepted_is (Err why) t is = absurd (let e : accepted (Err why) ≡ Ok t = is in cc)
 
-pub lines_of_sound : (text : List ℕ) (t : Tree) → tariff_in text ≡ Ok t → IsOfLines text
-lines_of_sound text t is = by (nat_lt 65536 (length text)) refl
+pub lines_of_sealed : (digest text : List ℕ) (t : Tree) → sealed_tariff digest text ≡ Ok t → HasSealedLines digest text
+lines_of_sealed digest text t is =
+    by (nat_lt 65536 (length text)) (pointwise nat_eq digest (sha256 text)) is refl
   where
-    by : (long : Bool) → nat_lt 65536 (length text) ≡ long → IsOfLines text
-    by true e =
-        let none : ◌≡◌ {A = Result Tree Refusal} (Err TooLong) (Ok t) =
-        sym (ap (λ (b : Bool). if b then Err TooLong else checked_in (tree_parsed text)) e) ∙ is in
-        absurd cc
-    by false e =
-        lines_of_parsed text (tree_parsed text) t (ltb-false 65536 (length text) e) refl
-        (sym (ap (λ (b : Bool). if b then Err TooLong else checked_in (tree_parsed text)) e) ∙ is)
+    answer : (long same : Bool) → Result Tree Ended
+    answer long same =
+        if long then Err (ended.BadTariff TooLong)
+        else (if same then accepted (tariff_in text) else Err (ended.WrongTariff digest (sha256 text)))
+
+    by : (long same : Bool) → answer long same ≡ Ok t → pointwise nat_eq digest (sha256 text) ≡ same
+        → HasSealedLines digest text
+    by true same e f = absurd cc
+    by false false e f = absurd cc
+    by false true e f =
+        record { sealed = f; lines = lines_of_sound text t (accepted_is (tariff_in text) t e) }

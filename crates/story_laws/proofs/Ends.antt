@@ -8,9 +8,8 @@ use Rattle.story_laws.specs.Common.{Event, Meter, MeterTrip, Moment, Receipt, Se
 use Rattle.story_laws.specs.Common.{display_told, displays_in, ended, first_state, happenings_of, moments_at}
 use Rattle.story_laws.specs.Common.{moments_of, opened, rate_told, receipts_in, run, step, stories_of, trip_at}
 use Rattle.story_laws.proofs.Stories.{AllGo, Passes, both, go_both, no_closing, one_closing, stories_match}
-use Rattle.taxi_units.specs.declared.event.Event.TheVariants as events
-
 use Rattle.story_laws.proofs.Told.{go_happenings, go_map, go_rate, on_displays}
+use Rattle.taxi_units.specs.declared.event.Event.TheVariants as events
 
 -- ---- the receipts of closings
 

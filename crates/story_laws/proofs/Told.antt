@@ -100,7 +100,6 @@ module _ (s : Setting) where
       (plain_event telling event m o)
       (each_if Plain (is_in_trip o.next.operating) _ [] (plain_refused (whys_in o.acts)) tt)
 
-
   pub go_happenings : (telling : Telling) (event : Event) (m : Meter) (o : Outcome) (trip : Option MeterTrip) (at : Stamp)
       → AllGo (map (moment_of trip at) (happenings_of s telling event m o))
   go_happenings telling event m o trip at =

@@ -1,4 +1,4 @@
-use Rattle.std.proofs.{Common.{◌∙◌, ◌≡◌, ap, false, refl, sym, true}, lemmas.Result.{err_from_is_err_and}}
+use Rattle.std.proofs.{Common.{◌∙◌, ◌≡◌, Err, ap, false, refl, sym, true}, lemmas.Result.{err_from_is_err_and}}
 use Rattle.{call_ends.proofs.Laws.{ends_apart, refusal_by, same_fault}, store_commands.proofs.Laws.{reads-behind}}
 use Rattle.drive_commands.specs.Common.{Rose, TableParts}
 use Rattle.drive_commands.{specs.Run.{does_hold_fit}, proofs.RunStarts.{not_begun-tables, start_fitted, start_from}}
@@ -55,3 +55,10 @@ returns-clause-begun g c = λ tells.
 
 pub returns-clause-reads : goal.returns-clause-reads
 returns-clause-reads g c = rw c.in_ok-tables.was at c.read_tables.ensures.reads
+
+-- memory ran out
+pub returns-in_err-tables-clause-memory : goal.returns-in_err-tables-clause-memory
+returns-in_err-tables-clause-memory g c =
+    let p = err_from_is_err_and c.from_residual.result c.from_residual.ensures.1 in
+    rw (p.1, p.2) (λ tells e. c.read_tables.ensures.memory tells
+    (c.in_err-tables.was ∙ ap Err (same_fault _ _ _ refl e)))

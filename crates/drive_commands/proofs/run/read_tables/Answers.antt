@@ -1,6 +1,7 @@
-use Rattle.{std.proofs.{Common.{ap, refl}, lemmas.Result.{err_from_is_err_and}}, tariff_tree.specs.Tree.{tree_of}}
-use Rattle.{call_ends.proofs.Laws.{ends_apart, no_fault, same_fault}, drive_commands.specs.Common.{TableParts}}
-use Rattle.store_commands.proofs.Laws.{reads-behind, reads-err}
+use Rattle.std.proofs.{Common.{◌∙◌, Err, ap, inr, refl}, lemmas.Result.{err_from_is_err_and}}
+use Rattle.{tariff_tree.specs.Tree.{tree_of}, call_ends.proofs.Laws.{ends_apart, no_fault, same_fault}}
+use Rattle.store_commands.proofs.Laws.{lines_of_sealed, reads-behind, reads-err}
+use Rattle.drive_commands.specs.Common.{TableParts}
 use Rattle.call_ends.specs.declared.ending.Ended.TheVariants as ended
 use Rattle.drive_commands.proofs.run.read_tables.Goals as goal
 
@@ -31,3 +32,16 @@ pub returns-in_err-checked-clause-reads : goal.returns-in_err-checked-clause-rea
 returns-in_err-checked-clause-reads g c =
     let p = err_from_is_err_and c.from_residual.result c.from_residual.ensures.1 in
     rw (p.1, p.2) (reads-err (rw c.in_err-checked.was at c.read_sealed.ensures.reads))
+
+-- ---- memory ran out
+
+pub returns-in_err-checked-clause-memory : goal.returns-in_err-checked-clause-memory
+returns-in_err-checked-clause-memory g c =
+    let p = err_from_is_err_and c.from_residual.result c.from_residual.ensures.1 in
+    rw (p.1, p.2) (λ tells e. c.read_sealed.ensures.memory tells
+    (c.in_err-checked.was ∙ ap Err (same_fault _ _ _ refl e)))
+
+pub returns-clause-memory : goal.returns-clause-memory
+returns-clause-memory g c = λ tells e.
+    inr (lines_of_sealed c.args.seal.now.digest (g.F.Files.rest c.args.files.now 1)
+    (tree_of c.in_ok-checked.checked) (c.in_ok-checked.ensures.found tells))

@@ -1,13 +1,23 @@
-use Rattle.{std.specs.Prelude.{IsErrOf}, drive_source.proofs.Laws.{begins_going}, meter_run.proofs.Laws.{keeps_read}}
-use Rattle.std.proofs.Common.{[], ℕ, ◌∙◌, ◌≡◌, ◌≢◌, Err, List, Result, ap, arith, inl, inr, refl, subst, sym, ⊎_elim}
-use Rattle.{meter_run.specs.Runs.{EndsRun}, drive_commands.proofs.TariffDrives.{board_fault-ran, read_fault-ran}}
+use Rattle.{std.{specs.Prelude.{IsErrOf}, proofs.Common.{⊎_elim}}, drive_source.proofs.Laws.{begins_going}}
+use Rattle.std.proofs.Common.{[], ℕ, ◌∙◌, ◌≡◌, ◌≢◌, Err, List, Ok, Result, ap, arith, inl, inr, refl, subst, sym}
+use Rattle.{meter_run.{specs.Runs.{EndsRun}, proofs.Laws.{keeps_read}}, store_commands.proofs.Laws.{not_memory-barred}}
 use Rattle.call_ends.proofs.Laws.{as_found, as_refused, goes-all, goes-none, no_fault, same_fault, stops-with}
-use Rattle.drive_commands.specs.Common.{Durable, Ended, IsSettingOf, IsTablesOf, OpensWith, Seal, TableParts, status_of}
-use Rattle.drive_commands.{specs.DriveEnds.{ended_by}, proofs.RunEnds.{ran-comes, ran-writes}}
-use Rattle.drive_commands.specs.{Run.{Start, run_command, setting_in, start_over, tables_in}, RunSteps.{RunReachesLine}}
+use Rattle.drive_commands.specs.Common.{Durable, Ended, IsSettingOf, IsTablesOf, OpensWith, RunFault, Seal, TableParts}
+use Rattle.drive_commands.specs.{Common.{status_of}, Run.{Start, run_command, setting_in, start_over, tables_in}}
+use Rattle.drive_commands.specs.{DriveEnds.{ended_by}, RunSteps.{RunReachesLine}}
 use Rattle.drive_commands.proofs.{RunAnswers.{carries-stopped, course-barred, course-not_begun}, RunStarts.{start_from}}
+use Rattle.drive_commands.proofs.{RunEnds.{ran-comes, ran-writes}, TariffDrives.{board_fault-ran, read_fault-ran}}
 use Rattle.call_ends.specs.declared.ending.Ended.TheVariants as ended
+use Rattle.meter_run.specs.declared.fault.RunFault.TheVariants as faults
 use Rattle.drive_commands.proofs.run.run.Goals as goal
+
+-- the run of a drive takes no memory
+not_memory-ran : (ran : Result (Unit {0}) RunFault) → ended_by ran ≢ ended.NoMemory
+not_memory-ran (Ok done) = λ e. absurd cc
+not_memory-ran (Err faults.ReadFault) = λ e. absurd cc
+not_memory-ran (Err faults.BoardFault) = λ e. absurd cc
+not_memory-ran (Err (faults.BadDrive line)) = λ e. absurd cc
+not_memory-ran (Err faults.TooLong) = λ e. absurd cc
 
 two-one : (n : ℕ) → n ≡ 2 → n ≢ 1
 two-one n e = λ f. omega arith
@@ -190,3 +200,19 @@ returns-clause-carries g c =
       at_rest = λ known told opened. (returns-clause-runs g c known.0 told).settled;
       looks = λ looks. absurd (looks.unwritten 8 (inr (inr (inr refl))));
     }
+
+-- ---- memory ran out
+
+pub returns-in-Err-clause-memory : goal.returns-in-Err-clause-memory
+returns-in-Err-clause-memory g c = λ tells told e. absurd (not_memory-barred c.in-Err.why c.in-Err.ensures.barred e)
+
+pub returns-in-Err-begin-clause-memory : goal.returns-in-Err-begin-clause-memory
+returns-in-Err-begin-clause-memory g c = λ tells told e. record {
+  store = c.in-Ok.store;
+  is = as_found c.open_sealed.result _ c.in-Ok.store ended.BoardFault c.in-Ok.is (c.open_sealed.ensures.exact told);
+  may = c.begin.ensures.memory tells (c.in-Err-begin.is ∙ ap Err e);
+}
+
+pub returns-clause-memory : goal.returns-clause-memory
+returns-clause-memory g c = λ tells told e.
+    absurd (not_memory-ran c.run_events-ran.result (sym c.ended_of.ensures ∙ e))

@@ -1,12 +1,12 @@
 use Rattle.std.proofs.Common.{ℕ, ◌∙◌, ◌≡◌, Err, List, Ok, Option, Result, ap, arith, inl, inr, refl, subst, sym}
 use Rattle.{std.proofs.lemmas.Result.{err_from_is_err_and}, sha2.specs.Sha256.{sha256}}
-use Rattle.{seal_record.specs.Reading.{params_read}, call_ends.proofs.Laws.{no_fault, read_fault-text, same_fault}}
+use Rattle.{seal_record.specs.Reading.{params_read}, store_commands.proofs.Sealings.{no_seal-tariff, no_tariff-fault}}
+use Rattle.call_ends.proofs.Laws.{lines_of_sound, no_fault, read_fault-text, same_fault}
 use Rattle.store_commands.specs.Common.{Ended, IsOfLines, Params, Refusal, Rose, Tree, ended_for}
 use Rattle.store_commands.specs.Seal.{HasDecimals, seal_read, seal_with_tariff, where_decimals, with_params}
-use Rattle.store_commands.specs.SealSteps.{IsNoSeal}
-use Rattle.store_commands.{specs.StoreEnds.{ended_for_params}, proofs.Sealings.{no_seal-tariff, no_tariff-fault}}
+use Rattle.store_commands.specs.{SealSteps.{IsNoSeal}, StoreEnds.{ended_for_params}}
 use Rattle.store_commands.proofs.ReadFaults.{no_memory-params, not_board-params, read_fault-params}
-use Rattle.store_commands.proofs.{SealedTariffs.{lines_of_sound, no_memory-text}, Turns.{first_alone, first_then}}
+use Rattle.store_commands.proofs.{SealedTariffs.{no_memory-text}, Turns.{first_alone, first_then}}
 use Rattle.store_commands.specs.declared.params.ParamsFault.TheVariants as params
 use Rattle.call_ends.specs.declared.tariff.TextFault.TheVariants as texts
 use Rattle.store_commands.proofs.seal.read_seal.Goals as goal
