@@ -32,8 +32,8 @@ def shares(rate, exponent):
 
 
 def reckoned(rates, lines):
-    """The exponent of rates, the share by which they are off in parts of 10^9, and their near amounts; or the fault, as
-    `check` would name it."""
+    """The exponent of rates, the share by which they are off in parts of 10^9, and their near amounts; or no exponent,
+    and the fault."""
     for exponent in EXPONENTS:
         near = [near_rate(rate, exponent) for rate in rates]
         if all(max(amounts) <= MOST_AMOUNT for amounts in near):
@@ -44,7 +44,8 @@ def reckoned(rates, lines):
     for rate, amounts in zip(rates, near, strict=True):
         if (rate[0] and not amounts[0]) or (rate[2] and not amounts[1]):
             return None, "NoCommonMeasure", None
-    return exponent, max((math.ceil(share * 10**9) for rate in rates for share in shares(rate, exponent)), default=0), near
+    off = [math.ceil(share * 10**9) for rate in rates for share in shares(rate, exponent)]
+    return exponent, max(off, default=0), near
 
 
 def money(units):
@@ -64,7 +65,10 @@ CONDITIONS = [
     "position 2", "time 22:00..05:00", "day sat..sun and not holiday", "after 9656.1 m", "after 60.0 s or zone 3",
     "date 12-24..01-02", "not (position 1 and zone 2)",
 ]
-FRAME = ["step 0.20 ahead", "positions 2", "zones 3", "holiday 2027-01-01", "supplement 1 1.00 max 3", "initial 3.80 covers 0.40"]
+FRAME = [
+    "step 0.20 ahead", "positions 2", "zones 3", "holiday 2027-01-01", "supplement 1 1.00 max 3",
+    "initial 3.80 covers 0.40",
+]
 
 
 def a_rate(draw):
@@ -73,13 +77,15 @@ def a_rate(draw):
     if kind < 0.8:
         return draw.randint(1, 40), draw.randint(200, 3000), draw.randint(1, 40), draw.randint(30, 600)
     most = 10 ** draw.randint(0, 12)
-    some = lambda: draw.choice([0, 1, MOST_AMOUNT, draw.randint(0, MOST_AMOUNT), draw.randint(0, 100), 10 ** draw.randint(0, 6)])
+    some = lambda: draw.choice(
+        [0, 1, MOST_AMOUNT, draw.randint(0, MOST_AMOUNT), draw.randint(0, 100), 10 ** draw.randint(0, 6)]
+    )
     return some(), draw.randint(1, most), some(), draw.randint(1, 10 ** draw.randint(0, 12))
 
 
 def a_tariff(draw):
-    """A text with some rates, the number of the line of each, and the lines in front of each and behind the last as they
-    are printed."""
+    """Some rates, the number of the line of each, a text with them, and its parts as they are printed: lines, and for a
+    rate its place and its condition."""
     rates = [a_rate(draw) for _ in range(draw.choice([1, 2, 4, 4, 6]))]
     text, printed, at = list(FRAME), ["\n".join(FRAME)], []
     for place, rate in enumerate(rates):

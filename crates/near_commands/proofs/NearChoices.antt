@@ -50,7 +50,8 @@ near_minimum t m x =
     ap (place_of (at_hiring x)) (conditions_same (near_rate m) minimum_part (minimum_when_same (near_rate m)) t.lines)
 
 pub near_step : (t : Tree) (m : Measures) → step_of (near_tariff m t).lines ≡ step_of t.lines
-near_step t m = alike_step (near_rate m) Same t.lines (with_rates (near_rate m) t.lines) (copies_alike (near_rate m) t.lines)
+near_step t m =
+    alike_step (near_rate m) Same t.lines (with_rates (near_rate m) t.lines) (copies_alike (near_rate m) t.lines)
 
 initials_same : (f : RateNumbers → RateNumbers) (ls : List Line) → initials_of (with_rates f ls) ≡ initials_of ls
 initials_same f [] = refl

@@ -27,7 +27,8 @@ fares initial minimum step n m upto =
     let times : step * n ≤ step * (m + 1) = mul-le step n step (m + 1) (omega arith) upto in
     by (step * n) (step * m) (omega (arith, times))
   where
-    by : (a b : ℕ) → a ≤ b + step → min 99999999 (max minimum (initial + a)) ≤ min 99999999 (max minimum (initial + b)) + step
+    by : (a b : ℕ) → a ≤ b + step
+        → min 99999999 (max minimum (initial + a)) ≤ min 99999999 (max minimum (initial + b)) + step
     by a b h = omega (arith, h)
 
 close_units : (share modulus x y : ℕ) → AreClose share x y → share * y ≤ 10 ^ 9 * modulus

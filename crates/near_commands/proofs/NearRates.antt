@@ -60,7 +60,8 @@ measured rates m is = by (exponent_of (numbers_of rates)) refl is
         lost true h = absurd cc
         lost false h =
             let same : measures_at j ≡ m = cc in
-            let there = found_in IsExponent (λ i. fit (measures_at i) (numbers_of rates)) candidates j exponents found in
+            let there =
+            found_in IsExponent (λ i. fit (measures_at i) (numbers_of rates)) candidates j exponents found in
             record {
               exponent = j;
               is = same;
@@ -123,7 +124,8 @@ share_enough share amount measure near other some none upto = either (cases_lt 0
         let is : cond (amount == 0) 0 (rounded_up number (amount * other)) ≡ rounded_up number (amount * other) =
         rw not_none refl in
         let few : rounded_up number (amount * other) ≤ share = omega (arith, is, upto) in
-        let times = mul-le (rounded_up number (amount * other)) (amount * other) share (amount * other) few (omega arith) in
+        let exact = amount * other in
+        let times = mul-le (rounded_up number exact) exact share exact few (omega arith) in
         omega (arith, times, up_enough number (amount * other) (omega (arith, both)))
     either (inr less) =
         let first : amount ≡ 0 = omega (arith, less) in

@@ -1,7 +1,7 @@
 -- A near tariff is sound, and has a small common measure.
 use Rattle.std.specs.{List.{cons_option, list_any}, Option.{option_or}, Prelude.{Bool, nat_le, nat_lt}}
 use Rattle.std.proofs.Common.{[], ℕ, ◌&&◌, ◌*◌, ◌++◌, ◌/◌, ◌<◌, ◌==◌, ◌^◌, ◌||◌, ◌∙◌, ◌∷◌, ◌≡◌, ◌≤◌, All, List, None}
-use Rattle.std.proofs.Common.{Ok, Option, Some, ap, arith, cond, false, refl, subst, suc, sym, true, zero}
+use Rattle.std.proofs.Common.{Ok, Option, Some, ap, arith, cond, drop, false, refl, subst, suc, sym, true, zero}
 use Rattle.std.proofs.lemmas.{Bool.{le-ltb, leb-true, ne_eqb}, List.Elements.{All-cons, All-head, All-nil, All-tail}}
 use Rattle.tariff_check.{specs.{Faults.{HasNone, IsSound}, Kinds.{is_great}}, proofs.Laws.{measures_are_least-least}}
 use Rattle.tariff_check.specs.Lines.{LineTest, first_after, has_great_amount, has_measure_zero, is_after_nothing}
@@ -93,7 +93,8 @@ measures_all P m [] way time = All-nil P
 measures_all P m (l ∷ ls) way time = by l.entry (measures_all P m ls way time)
   where
     by : (x : Entry) → All P (measures_of (with_rates (near_rate m) ls))
-        → All P (measures_of (record { line = l.line; entry = with_rate (near_rate m) x } ∷ with_rates (near_rate m) ls))
+        → All P (measures_of (record { line = l.line; entry = with_rate (near_rate m) x }
+        ∷ with_rates (near_rate m) ls))
     by (rate a b c e when) rest =
         let more = measures_of (with_rates (near_rate m) ls) in
         All-cons P m.distance (m.time ∷ more) way (All-cons P m.time more time rest)
@@ -169,58 +170,114 @@ not_zero : (line : Option ℕ) → fault_at MeasureZero line ≡ None → line �
 not_zero None is = refl
 not_zero (Some n) is = absurd cc
 
+-- the faults of cuts and cells, those in front of them, and the first ones
+none_from_12 : (t : Tree) (m : Measures) → IsNear t m
+    → HasNone (drop 12 (faults_of (with_rates (near_rate m) t.lines)))
+none_from_12 t m near zero d within =
+    let f = near_rate m in
+    let ls = t.lines in
+    let ms = with_rates f ls in
+    let alike = copies_alike f ls in
+    rw (alike_count f Same ls ms alike MonthDay) (near.faultless 11 None (omega arith))
+none_from_12 t m near (suc zero) d within =
+    let f = near_rate m in
+    let ls = t.lines in
+    let ms = with_rates f ls in
+    let alike = copies_alike f ls in
+    rw (alike_count f Same ls ms alike Minute) (near.faultless 12 None (omega arith))
+none_from_12 t m near (suc (suc zero)) d within =
+    let f = near_rate m in
+    let ls = t.lines in
+    let ms = with_rates f ls in
+    let alike = copies_alike f ls in
+    rw (alike_count f Same ls ms alike Distance) (near.faultless 13 None (omega arith))
+none_from_12 t m near (suc (suc (suc zero))) d within =
+    let f = near_rate m in
+    let ls = t.lines in
+    let ms = with_rates f ls in
+    let alike = copies_alike f ls in
+    rw (alike_count f Same ls ms alike Time) (near.faultless 14 None (omega arith))
+none_from_12 t m near (suc (suc (suc (suc zero)))) d within =
+    let f = near_rate m in
+    let ls = t.lines in
+    let ms = with_rates f ls in
+    let alike = copies_alike f ls in
+    rw (alike_cells f Same ls ms alike) (near.faultless 15 None (omega arith))
+none_from_12 t m near (suc (suc (suc (suc (suc k))))) d within = absurd (omega (arith, within))
+
+none_from_6 : (t : Tree) (m : Measures) → IsNear t m
+    → HasNone (drop 6 (faults_of (with_rates (near_rate m) t.lines)))
+none_from_6 t m near zero d within =
+    let f = near_rate m in
+    let ls = t.lines in
+    let ms = with_rates f ls in
+    let alike = copies_alike f ls in
+    rw (alike_initial f Same ls ms alike) (near.faultless 6 None (omega arith))
+none_from_6 t m near (suc zero) d within =
+    let f = near_rate m in
+    let ls = t.lines in
+    let ms = with_rates f ls in
+    let alike = copies_alike f ls in
+    rw (told_same f _ _ (alike_after f Same ls ms alike)) (near.faultless 7 None (omega arith))
+none_from_6 t m near (suc (suc zero)) d within =
+    let f = near_rate m in
+    let ls = t.lines in
+    let ms = with_rates f ls in
+    let alike = copies_alike f ls in
+    rw (told_same f _ _ (alike_date f Same ls ms alike)) (near.faultless 8 None (omega arith))
+none_from_6 t m near (suc (suc (suc zero))) d within =
+    let told = not_told (first_line has_great_amount t.lines) (near.faultless 9 None (omega arith)) in
+    rw (no_great m [] [] t.lines near.fits told) refl
+none_from_6 t m near (suc (suc (suc (suc zero)))) d within =
+    let told = not_zero (first_line has_measure_zero t.lines) (near.faultless 10 None (omega arith)) in
+    rw (no_nothing m [] [] t.lines near.way near.time told) refl
+none_from_6 t m near (suc (suc (suc (suc (suc zero))))) d within =
+    let lines = with_rates (near_rate m) t.lines in
+    let upto = small_measure m t.lines near.has near.way near.time in
+    let few : nat_lt (10 ^ 18) (measure_of lines) ≡ false = le-ltb _ _ (omega (arith, upto)) in
+    rw few refl
+none_from_6 t m near (suc (suc (suc (suc (suc (suc k)))))) d within =
+    none_from_12 t m near k d (omega (arith, within))
+
 none_of_faults : (t : Tree) (m : Measures) → IsNear t m → HasNone (faults_of (with_rates (near_rate m) t.lines))
 none_of_faults t m near zero d within =
     let f = near_rate m in
-    rw (alike_step f Same t.lines (with_rates f t.lines) (copies_alike f t.lines)) (near.faultless zero None (omega arith))
+    let ls = t.lines in
+    let ms = with_rates f ls in
+    let alike = copies_alike f ls in
+    rw (alike_step f Same ls ms alike) (near.faultless 0 None (omega arith))
 none_of_faults t m near (suc zero) d within =
     let f = near_rate m in
-    rw (alike_step f Same t.lines (with_rates f t.lines) (copies_alike f t.lines)) (near.faultless (suc zero) None (omega arith))
+    let ls = t.lines in
+    let ms = with_rates f ls in
+    let alike = copies_alike f ls in
+    rw (alike_step f Same ls ms alike) (near.faultless 1 None (omega arith))
 none_of_faults t m near (suc (suc zero)) d within =
     let f = near_rate m in
-    rw (told_same f _ _ (alike_duplicate f Same t.lines (with_rates f t.lines) (copies_alike f t.lines))) (near.faultless (suc (suc zero)) None (omega arith))
+    let ls = t.lines in
+    let ms = with_rates f ls in
+    let alike = copies_alike f ls in
+    rw (told_same f _ _ (alike_duplicate f Same ls ms alike)) (near.faultless 2 None (omega arith))
 none_of_faults t m near (suc (suc (suc zero))) d within =
     let f = near_rate m in
-    rw (told_same f _ _ (alike_too_many f Same t.lines (with_rates f t.lines) (copies_alike f t.lines))) (near.faultless (suc (suc (suc zero))) None (omega arith))
+    let ls = t.lines in
+    let ms = with_rates f ls in
+    let alike = copies_alike f ls in
+    rw (told_same f _ _ (alike_too_many f Same ls ms alike)) (near.faultless 3 None (omega arith))
 none_of_faults t m near (suc (suc (suc (suc zero)))) d within =
     let f = near_rate m in
-    rw (told_same f _ _ (alike_unknown f Same t.lines (with_rates f t.lines) (copies_alike f t.lines))) (near.faultless (suc (suc (suc (suc zero)))) None (omega arith))
+    let ls = t.lines in
+    let ms = with_rates f ls in
+    let alike = copies_alike f ls in
+    rw (told_same f _ _ (alike_unknown f Same ls ms alike)) (near.faultless 4 None (omega arith))
 none_of_faults t m near (suc (suc (suc (suc (suc zero))))) d within =
     let f = near_rate m in
-    rw (alike_rate f Same t.lines (with_rates f t.lines) (copies_alike f t.lines)) (near.faultless (suc (suc (suc (suc (suc zero))))) None (omega arith))
-none_of_faults t m near (suc (suc (suc (suc (suc (suc zero)))))) d within =
-    let f = near_rate m in
-    rw (alike_initial f Same t.lines (with_rates f t.lines) (copies_alike f t.lines)) (near.faultless (suc (suc (suc (suc (suc (suc zero)))))) None (omega arith))
-none_of_faults t m near (suc (suc (suc (suc (suc (suc (suc zero))))))) d within =
-    let f = near_rate m in
-    rw (told_same f _ _ (alike_after f Same t.lines (with_rates f t.lines) (copies_alike f t.lines))) (near.faultless (suc (suc (suc (suc (suc (suc (suc zero))))))) None (omega arith))
-none_of_faults t m near (suc (suc (suc (suc (suc (suc (suc (suc zero)))))))) d within =
-    let f = near_rate m in
-    rw (told_same f _ _ (alike_date f Same t.lines (with_rates f t.lines) (copies_alike f t.lines))) (near.faultless (suc (suc (suc (suc (suc (suc (suc (suc zero)))))))) None (omega arith))
-none_of_faults t m near (suc (suc (suc (suc (suc (suc (suc (suc (suc zero))))))))) d within =
-    rw (no_great m [] [] t.lines near.fits (not_told (first_line has_great_amount t.lines) (near.faultless (suc (suc (suc (suc (suc (suc (suc (suc (suc zero))))))))) None (omega arith)))) refl
-none_of_faults t m near (suc (suc (suc (suc (suc (suc (suc (suc (suc (suc zero)))))))))) d within =
-    rw (no_nothing m [] [] t.lines near.way near.time (not_zero (first_line has_measure_zero t.lines) (near.faultless (suc (suc (suc (suc (suc (suc (suc (suc (suc (suc zero)))))))))) None (omega arith)))) refl
-none_of_faults t m near (suc (suc (suc (suc (suc (suc (suc (suc (suc (suc (suc zero))))))))))) d within =
-    let upto = small_measure m t.lines near.has near.way near.time in
-    let few : nat_lt (10 ^ 18) (measure_of (with_rates (near_rate m) t.lines)) ≡ false = le-ltb _ _ (omega (arith, upto)) in
-    rw few refl
-none_of_faults t m near (suc (suc (suc (suc (suc (suc (suc (suc (suc (suc (suc (suc zero)))))))))))) d within =
-    let f = near_rate m in
-    rw (alike_count f Same t.lines (with_rates f t.lines) (copies_alike f t.lines) MonthDay) (near.faultless (suc (suc (suc (suc (suc (suc (suc (suc (suc (suc (suc zero))))))))))) None (omega arith))
-none_of_faults t m near (suc (suc (suc (suc (suc (suc (suc (suc (suc (suc (suc (suc (suc zero))))))))))))) d within =
-    let f = near_rate m in
-    rw (alike_count f Same t.lines (with_rates f t.lines) (copies_alike f t.lines) Minute) (near.faultless (suc (suc (suc (suc (suc (suc (suc (suc (suc (suc (suc (suc zero)))))))))))) None (omega arith))
-none_of_faults t m near (suc (suc (suc (suc (suc (suc (suc (suc (suc (suc (suc (suc (suc (suc zero)))))))))))))) d within =
-    let f = near_rate m in
-    rw (alike_count f Same t.lines (with_rates f t.lines) (copies_alike f t.lines) Distance) (near.faultless (suc (suc (suc (suc (suc (suc (suc (suc (suc (suc (suc (suc (suc zero))))))))))))) None (omega arith))
-none_of_faults t m near (suc (suc (suc (suc (suc (suc (suc (suc (suc (suc (suc (suc (suc (suc (suc zero))))))))))))))) d within =
-    let f = near_rate m in
-    rw (alike_count f Same t.lines (with_rates f t.lines) (copies_alike f t.lines) Time) (near.faultless (suc (suc (suc (suc (suc (suc (suc (suc (suc (suc (suc (suc (suc (suc zero)))))))))))))) None (omega arith))
-none_of_faults t m near (suc (suc (suc (suc (suc (suc (suc (suc (suc (suc (suc (suc (suc (suc (suc (suc zero)))))))))))))))) d within =
-    let f = near_rate m in
-    rw (alike_cells f Same t.lines (with_rates f t.lines) (copies_alike f t.lines)) (near.faultless (suc (suc (suc (suc (suc (suc (suc (suc (suc (suc (suc (suc (suc (suc (suc zero))))))))))))))) None (omega arith))
-none_of_faults t m near (suc (suc (suc (suc (suc (suc (suc (suc (suc (suc (suc (suc (suc (suc (suc (suc (suc k))))))))))))))))) d within = absurd (omega (arith, within))
+    let ls = t.lines in
+    let ms = with_rates f ls in
+    let alike = copies_alike f ls in
+    rw (alike_rate f Same ls ms alike) (near.faultless 5 None (omega arith))
+none_of_faults t m near (suc (suc (suc (suc (suc (suc k)))))) d within =
+    none_from_6 t m near k d (omega (arith, within))
 
 pub near_sound : (t : Tree) (m : Measures) → near_measures t ≡ Ok m → IsSound (near_tariff m t)
 near_sound t m is = none_of_faults t m (near_is t m is)

@@ -38,11 +38,12 @@ fit m rates = list_all (λ (r : RateNumbers). is_moderate (near_rate m r)) rates
 abbrev pub exponent_of : List RateNumbers → Option ℕ
 exponent_of rates = find (λ j. fit (measures_at j) rates) (7 ∷ 6 ∷ 5 ∷ 4 ∷ 3 ∷ 2 ∷ [])
 
--- the great line of rates is the number of the first one that has a near amount above 1,000,000 at the exponent 2.
--- There is one if they have no exponent, as the law rates_without_exponent_are_great says
+-- the test `is_great` is true of a rate if one of its near amounts is above 1,000,000 at the exponent 2
 abbrev pub is_great : NumberedRate → Bool
 is_great r = not (is_moderate (near_rate (measures_at 2) r.rate))
 
+-- the great line of rates is the number of the first one that is great, and 0 if none is; if they have no exponent, one
+-- is, since 2 is the last that is tried
 abbrev pub great_line : List NumberedRate → ℕ
 great_line rates = unwrap_or (option_map (λ (r : NumberedRate). r.line) (find is_great rates)) 0
 

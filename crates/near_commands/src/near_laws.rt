@@ -40,8 +40,8 @@ pub fn near_tariffs_choose_alike()
     ensures step { (t : Tree) (m : Measures) → step_of (near_tariff m t).lines ≡ step_of t.lines }
 {}
 
-/// A law: of each tariff for which a near one is printed, each rate's price of a decimetre and of a tenth of a second is
-/// within the told share of the given one's. So, whatever number all measures of both rates divide, each charge under
+/// A law: of each tariff for which a near one is printed, each rate's price of a decimetre and of a tenth of a second
+/// is within the told share of the given one's. So, whatever number all measures of both rates divide, each charge under
 /// the near rate is within that share of the charge under the given one, in both modes.
 pub fn near_charges_are_within_the_share()
     ensures rates { (t : Tree) (m : Measures) → near_measures t ≡ Ok m

@@ -400,6 +400,11 @@ const SEVEN_FAULTS: &str =
     "BAD TARIFF NoStep\nBAD TARIFF Duplicate 2\nBAD TARIFF UnknownNumber 3\nBAD TARIFF NoDefaultRate\n\
      BAD TARIFF NoDefaultInitial\nBAD TARIFF BadDate 4\nBAD TARIFF MeasureZero 3\n";
 
+/// The tariff A by the nearest amounts for 10^7 decimetres and 3,600,000 tenths of a second, worked by hand.
+const NEAR: &str =
+    "# each amount is within 1460 in 1000000000\ndecimals 2\nstep 0.20 ahead\ninitial 3.80 covers 0.40\n\
+     rate 1703.58 per 1000000.0 m, 2857.14 per 360000.0 s\n";
+
 /// Each command that doesn't look at the store, and words that are none.
 const WITHOUT_STORE: &[Call] = &[
     (
@@ -411,6 +416,7 @@ const WITHOUT_STORE: &[Call] = &[
     ),
     (&["faults", "t"], &[FAULTY], 2, &[SEVEN_FAULTS], 2),
     (&["form", "t"], &[A], 2, &[A], 0),
+    (&["near", "t"], &[A], 2, &[NEAR], 0),
     (&["tables", "t", "10000"], &[A], 2, &[ROWS], 0),
     (&["lines", "t", "10000"], &[A], 2, &[LINES], 0),
     (
