@@ -1,8 +1,8 @@
 -- No receipt lies in another's text with more behind it: only the last line of a receipt is that of its end.
 use Rattle.std.{specs.Char.{digit_value}, proofs.lemmas.{Bool.{and_parts, eq-eqb}, List.Elements.{recursion_from_All}}}
 use Rattle.std.specs.{List.{AllByRecursion}, Prelude.{codes}, Str.Parse.{AllDigits}}
-use Rattle.std.proofs.Common.{[], ℕ, ℤ, ◌&&◌, ◌++◌, ◌+◌, ◌<◌, ◌==◌, ◌∙◌, ◌∷◌, ◌≡◌, ◌≢◌, Bool, List, ap, append_assoc}
-use Rattle.std.proofs.Common.{arith, false, inl, inr, length, length-append, not, refl, subst, sym, true}
+use Rattle.std.proofs.Common.{[], ℕ, ℤ, ◌&&◌, ◌++◌, ◌<◌, ◌==◌, ◌∙◌, ◌∷◌, ◌≡◌, ◌≢◌, Bool, List, ap, append_assoc, arith}
+use Rattle.std.proofs.Common.{false, inl, inr, length, length-append, not, refl, subst, sym, true}
 use Rattle.{taxi_units.specs.Decimal.{IsDecimal}, seal_record.specs.Ranges.{IsTaxi}}
 use Rattle.taxi_units.specs.{Identifier.{IsIdentifierCharacter}, Written.{IsAmountText, IsNumberText, IsPaddedText}}
 use Rattle.taxi_units.specs.declared.receipt.{Kind.{Kind, TheVariants.{Aborted, Closed, Expired, Roam}}, Stamp.{Stamp}}

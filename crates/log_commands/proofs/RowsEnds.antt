@@ -4,14 +4,14 @@ use Rattle.std.proofs.Common.{[], ℕ, ◌++◌, ◌+◌, ◌<◌, ◌∙◌, �
 use Rattle.std.proofs.Common.{append_assoc, arith, false, inl, inr, length, length-append, refl, subst, sym}
 use Rattle.outside.{specs.declared.files.Files.{Ghosts as FileGhosts}, proofs.Laws.{begins_after, keeps_then}}
 use Rattle.receipt_reading.specs.{Reading.{EndsBy, HasBegun, IsOver, IsReading, Place, ReadsOn}, Roll.{IsFirst}}
-use Rattle.receipt_reading.specs.ReceiptRows.{heading, row_of, rows_of}
+use Rattle.{receipt_reading.specs.ReceiptRows.{heading, row_of, rows_of}, log_commands.specs.BeforeLastLine.{IsTold}}
 use Rattle.receipt_reading.specs.declared.roll.RollEnd.TheVariants.{ReadFault, TooLong, Whole}
 use Rattle.receipt_reading.proofs.Laws.{beginning_first, receipts_so_far, receipts_taken}
-use Rattle.log_commands.specs.{BeforeLastLine.{IsTold}, RowsCalls.{listing_of, rows_end, rows_text}}
 use Rattle.log_commands.specs.{Calls.{MayHaveReadFault}, ListedRows.{IsListing, IsRowsBroken, IsRowsDue, RowsReachLine}}
 use Rattle.log_commands.specs.Common.{AreOnRoll, Begins, BoardFault, Ended, Ghosts, KeepsStore, Printed, Reads}
-use Rattle.log_commands.specs.{Common.{RisesOnlyIf, RollEnd, Rose, stream_limit}, Endings.{line_of, status_of}}
-use Rattle.log_commands.specs.RowsCalls.{IsGoneThrough, IsRowsCall, ListsShort, ListsWhole, MayEndSo, listed_of}
+use Rattle.log_commands.specs.{Common.{RisesOnlyIf, RollEnd, Rose, stream_limit}, RowsCalls.{rows_text}}
+use Rattle.log_commands.specs.Endings.{line_of, status_of}
+use Rattle.log_commands.specs.RowsCalls.{IsRowsCall, ListsShort, ListsWhole, MayEndSo, listed_of, listing_of, rows_end}
 use Rattle.log_commands.specs.declared.ending.Ended.TheVariants as ended
 
 -- ---- listings
@@ -338,6 +338,11 @@ module _ {E D L : Type 0} {N : ℕ} (F : FileGhosts E) (B : Ghosts D N L) where
   zero_is TooLong e = absurd (omega (arith, e))
   zero_is ReadFault e = absurd (omega (arith, e))
 
+  nothing_left : (taken rest : List ℕ) (failed : Type 0) (end : RollEnd) → end ≡ Whole
+      → MayEndSo end taken rest failed → rest ≡ []
+  nothing_left taken rest failed end is ends =
+      let over : MayEndSo Whole taken rest failed = subst (λ (e : RollEnd). MayEndSo e taken rest failed) is ends in over
+
   -- and all of them if it ends with 0
   pub rows_all : (files files' : E) (log log' : D) (steps steps' : ℕ) (all : List Printed)
       → AreOnRoll all (F.rest files 1) → IsRowsCall F B files files' log log' steps steps' 0
@@ -350,8 +355,8 @@ module _ {E D L : Type 0} {N : ℕ} (F : FileGhosts E) (B : Ghosts D N L) where
       by : (whole : ListsWhole F B files files' log log' call.taken call.receipts 0) → whole.end ≡ Whole
           → B.printed log' ≡ B.printed log ++ listing_of all
       by whole is =
-          let over : F.rest files' 1 ≡ [] = subst (λ (e : RollEnd).
-          MayEndSo e call.taken (F.rest files' 1) (Rose (F.faults files 1) (F.faults files' 1))) is whole.through.ends in
+          let over = nothing_left call.taken (F.rest files' 1) (Rose (F.faults files 1) (F.faults files' 1))
+          whole.end is whole.through.ends in
           let roll_is : F.rest files 1 ≡ call.taken =
           call.roll_is ∙ (ap (λ (t : List ℕ). call.taken ++ t) over ∙ append-nil call.taken) in
           let same_list : call.receipts ≡ all = one_list (F.rest files 1) call.receipts all

@@ -166,8 +166,8 @@ pub record IsOneTaxi (roll : List ℕ) (newest : Option Record) : Type 0 where
   pub receipts : (receipts : List Record) (rest : List ℕ) → Reads roll receipts rest → IsOfTaxi taxi receipts
   pub newest_is : IsNewestOf taxi newest
 
--- a roll is fit for `rows` if it has fewer than 2^40 bytes, and for `file` if it is also of one taxi, of which the newest
--- record of the log is too; `show` takes none
+-- a roll is fit for `rows` if it has fewer than 2^40 bytes, and for `file` if it is also of one taxi, of which the
+-- newest record of the log is too; `show` takes none
 abbrev pub IsFit : Call → (roll : List ℕ) → (newest : Option Record) → Type 0
 IsFit Show roll newest = Unit {0}
 IsFit File roll newest = (length roll < stream_limit) × IsOneTaxi roll newest

@@ -1,9 +1,9 @@
 -- For proofs: what `rows` gives before its last line is printed. IsRowsCall, in RowsCalls, says what it gives in the
 -- end.
-use Rattle.std.specs.Prelude.{[], ℕ, ◌++◌, ◌+◌, ◌≡◌, ◌≤◌, ◌⊎◌, List, length}
+use Rattle.std.specs.Prelude.{ℕ, ◌++◌, ◌+◌, ◌≡◌, ◌≤◌, ◌⊎◌, List, length}
 use Rattle.outside.specs.declared.files.Files.{Ghosts as FileGhosts}
-use Rattle.{receipt_reading.specs.Reading.{HasBegun, IsReading, Place}, log_commands.specs.Common.{stream_limit}}
-use Rattle.log_commands.specs.Common.{Begins, BoardFault, Ended, Ghosts, KeepsStore, Printed, Reads, RollEnd, Rose}
+use Rattle.receipt_reading.specs.Reading.{HasBegun, IsReading, Place}
+use Rattle.log_commands.specs.Common.{Begins, BoardFault, Ended, Ghosts, Printed, Reads, RollEnd, Rose, stream_limit}
 use Rattle.log_commands.specs.RowsCalls.{IsGoneThrough, listed_of, listing_of, rows_end}
 
 module _ {E D L : Type 0} {N : ℕ} (F : FileGhosts E) (B : Ghosts D N L) where

@@ -18,61 +18,33 @@ supplements,total\n",
 
 /// Which reads of the roll and which calls of the log fail, how many lines of the listing come, the last line, and the
 /// status.
-struct Case {
-    reads: &'static [u64],
-    calls: &'static [u64],
-    lines: usize,
-    last: &'static [u8],
-    status: u8,
-}
+type Case = (&'static [u64], &'static [u64], usize, &'static [u8], u8);
 
-/// A case in which a read fails, or none.
-const fn at_read(reads: &'static [u64], lines: usize, last: &'static [u8], status: u8) -> Case {
-    Case {
-        reads,
-        calls: &[],
-        lines,
-        last,
-        status,
-    }
-}
-
-/// A case in which a call of the log fails.
-const fn at_call(calls: &'static [u64], lines: usize) -> Case {
-    Case {
-        reads: &[],
-        calls,
-        lines,
-        last: b"",
-        status: 8,
-    }
-}
-
-/// No failure, and one at each of the two reads of the roll, the second of which tells its end, and at each of the three
-/// prints; a fourth call of the log isn't made.
+/// No failure, and one at each of the two reads of the roll, the second of which tells its end, and at each of the
+/// three prints; a third read isn't made.
 const CASES: &[Case] = &[
-    at_read(&[], 3, b"", 0),
-    at_read(&[1], 0, b"READ FAULT\n", 7),
-    at_read(&[2], 3, b"READ FAULT\n", 7),
-    at_read(&[3], 3, b"", 0),
-    at_call(&[1], 0),
-    at_call(&[2], 1),
-    at_call(&[3], 2),
+    (&[], &[], 3, b"", 0),
+    (&[1], &[], 0, b"READ FAULT\n", 7),
+    (&[2], &[], 3, b"READ FAULT\n", 7),
+    (&[3], &[], 3, b"", 0),
+    (&[], &[1], 0, b"", 8),
+    (&[], &[2], 1, b"", 8),
+    (&[], &[3], 2, b"", 8),
 ];
 
 /// The text of a case.
 fn text_of(alloc: Global, case: &Case) -> Result<Vec<u8>, Fail> {
     let mut text = Vec::new(alloc);
-    for line in LINES.iter().take(case.lines) {
+    for line in LINES.iter().take(case.2) {
         text.extend_from_slice(line)?;
     }
-    text.extend_from_slice(case.last)?;
+    text.extend_from_slice(case.3)?;
     Ok(text)
 }
 
 /// Whether a call has ended as a case says, and has left the log of an image.
 fn is_as_told(ended: &Ended, text: &[u8], case: &Case, image: &[u8]) -> bool {
-    ended.0.printed() == text && ended.1 == case.status && ended.0.image().as_slice() == image
+    ended.0.printed() == text && ended.1 == case.4 && ended.0.image().as_slice() == image
 }
 
 /// Receipts 2 and 3 are listed, beside a log that has others, in each case.
@@ -82,7 +54,7 @@ fn a_listing(rt: HostRuntime) -> Result<(), Fail> {
     let roll = receipts(rt.alloc(), 2, 3)?;
     for (place, case) in CASES.iter().enumerate() {
         let text = text_of(rt.alloc(), case)?;
-        let ended = failing(rt.alloc(), &image, ROWS, &roll, case.reads, case.calls)?;
+        let ended = failing(rt.alloc(), &image, ROWS, &roll, case.0, case.1)?;
         let is_told = is_as_told(&ended, &text, case, &image);
         must_at(is_told, "another end of case", place as u64)?;
     }

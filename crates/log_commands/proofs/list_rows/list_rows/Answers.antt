@@ -1,7 +1,7 @@
 use Rattle.std.proofs.{Common.{[], ◌∙◌, Some, ap, arith, inr, refl, sym}, lemmas.Bool.{false≢true}}
 use Rattle.outside.proofs.Laws.{keeps_print, keeps_then, may_rise_more, rises_by, rises_not}
-use Rattle.receipt_reading.specs.declared.roll.RollEnd.TheVariants.{ReadFault, Whole}
-use Rattle.log_commands.{specs.Common.{Rose}, proofs.Causes.{rose_later}}
+use Rattle.{receipt_reading.specs.declared.roll.RollEnd.TheVariants.{Whole}, log_commands.proofs.Causes.{rose_later}}
+use Rattle.log_commands.specs.Common.{Rose}
 use Rattle.log_commands.proofs.RowsEnds.{begun_none, breaks_off, listed_none, lists_on, ok_of, on_ok_of, reaches_broken}
 use Rattle.log_commands.proofs.RowsEnds.{reaches_over, reaches_unread, rows_end_board, rows_end_read, rows_end_reads}
 use Rattle.log_commands.proofs.list_rows.list_rows.Given as given
