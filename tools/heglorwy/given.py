@@ -32,6 +32,8 @@ def decimal_of(text, fits, said):
     try:
         number = Decimal(text)
     except InvalidOperation:
+        if re.fullmatch("[0-9]+,[0-9]+", text):
+            raise argparse.ArgumentTypeError(f"{text!r} has a comma; decimals have a point, as {text.replace(',', '.')}") from None
         number = Decimal("NaN")
     if not number.is_finite() or not fits(number):
         raise argparse.ArgumentTypeError(f"{text!r} is no number {said}")
@@ -92,5 +94,12 @@ def add_place(parser, as_words=True):
         parser.add_argument(name if as_words else f"--{name}", type=ranged(1, 9), default=1, help=f"the {name} (1)", **how)
 
 
-date = datetime.date.fromisoformat
+def date(text):
+    """A day, as 2026-03-02."""
+    try:
+        return datetime.date.fromisoformat(text if re.fullmatch("[0-9]{4}-[0-9]{2}-[0-9]{2}", text) else "")
+    except ValueError:
+        raise argparse.ArgumentTypeError(f"{text!r} is no day; year, month and day are written as 2026-03-02") from None
+
+
 EXAMPLE_DAY = date("2026-03-02")  # a Monday, and no holiday of the examples

@@ -21,6 +21,16 @@ td.number, th.number { text-align: right; white-space: nowrap; padding-right: 0;
 td.exact, th.exact { overflow-wrap: anywhere; padding-left: 5mm; width: 40mm; }
 tr.sum td { font-weight: bold; }
 p { margin: 1mm 0; overflow-wrap: anywhere; }
+@media screen { body { padding: 5mm 3mm; } }
+@media screen and (max-width: 600px) {
+  body { font-size: 11pt; }
+  dl { grid-template-columns: 1fr; }
+  dd { margin-bottom: 1mm; }
+  .charged thead { display: none; }
+  .charged tr { display: flex; flex-wrap: wrap; gap: 0 4mm; margin-bottom: 1mm; }
+  .charged td:first-child { flex-basis: 100%; }
+  .charged td { padding: 0; width: auto; text-align: left; }
+}
 """
 NOTE = ("Times are those of the meter's clock, and between two readings of it those that the counted time comes to. Metres, "
         "times and money are rounded for reading; the fare is made of the exact amounts.")
@@ -71,13 +81,15 @@ def cell(text, kind="", name="td"):
 def charged_rows(account):
     """The table of what was charged."""
     columns = "".join(cell(name, "exact" if name == COLUMNS[3] else "number", "th") for name in COLUMNS)
-    yield f"<table><thead><tr><th></th>{columns}</tr></thead>"
+    yield f'<table class="charged"><thead><tr><th></th>{columns}</tr></thead>'
     for name, rows in account.groups:
         yield f'<tr><th class="line" colspan="5">{html.escape(name)}</th></tr>'
         for way, *cells, exact in rows:
+            # A fraction is for whoever reckons it again, and stands in the text alone.
+            exact = "" if "/" in exact else exact
             yield f"<tr>{cell(way)}{''.join(cell(text, 'number') for text in cells)}{cell(exact, 'exact')}</tr>"
     yield "</table>"
-    yield from (f"<p>{html.escape(sentence)}</p>" for sentence in account.sums)
+    yield from (f"<p>{html.escape(sentence)}</p>" for sentence in account.sums if "/" not in sentence)
 
 
 def article(account):
@@ -98,6 +110,7 @@ def as_html(accounts):
     """The accounts as pages that print on A4."""
     title = html.escape(accounts[0].title)
     pages = [row for account in accounts for row in article(account)]
-    head = f'<!DOCTYPE html>\n<html lang="en"><head><meta charset="utf-8"><title>{title}</title>\n'
+    head = '<!DOCTYPE html>\n<html lang="en"><head><meta charset="utf-8">\n'
+    head += f'<meta name="viewport" content="width=device-width, initial-scale=1"><title>{title}</title>\n'
     head += f"<style>\n{STYLE}</style></head><body>"
     return clean("\n".join([head, *pages, "</body></html>", ""]))

@@ -121,11 +121,11 @@ def way_of(way, rate):
     if way != "TIME" or not rate["a"]:
         return {"DISTANCE": "by distance", "TIME": "by time", "BOTH": "by distance and by time"}[way]
     speed = Fraction(rate["c"] * rate["b"], rate["e"] * rate["a"]) * Fraction(36, 10)
-    return f"by time, where slower than {rounded(speed, 1)} km/h"
+    return f"by time: slower than {rounded(speed, 1)} km/h, or standing"
 
 
 def groups_of(told, tables, meter, unit):
-    """What each line charged, in the order of the text, and what was free."""
+    """What each line charged, in the order of the trip, and what was free."""
     rates = {line.number: line for line in of_kind(tables.lines, "rate")}
     groups = {}
     for number, way, long, _, time, _, _, units in all_in(told, "RATE"):
@@ -185,9 +185,18 @@ def fare_of(told, tables, meter, unit):
     yield f"TOTAL, {first_in(told, 'FARE')[0]} + {first_in(told, 'SUPPLEMENTS')[0]}", first_in(told, "TOTAL")[0]
 
 
+def in_order_of_trip(told, trip):
+    """What `explain` says of a hiring, its lines of rates in the order in which they charged first."""
+    order = [happening.about.number for happening in trip.story if happening.what == "rate"]
+    rates = sorted((words for words in told if words[0] == "RATE"), key=lambda words: order.index(int(words[1])))
+    return [words if words[0] != "RATE" else rates.pop(0) for words in told]
+
+
 def account_of(number, trip, told, tables, meter, asked, receipt):
     """The account of a hiring, by its trip and what `explain` says of it."""
+    told = in_order_of_trip(told, trip)
     unit = int(first_in(told, "CHARGED")[3]) * 10**tables.decimals
     title = f"The fare of taxi {meter.taxi} on {first_in(told, 'START')[0]}: {first_in(told, 'TOTAL')[0]}"
+    title += f" {asked.currency}" if asked.currency else ""
     return Account(title, head_of(told, meter, asked, number, receipt), story_of(trip, tables, meter),
                    groups_of(told, tables, meter, unit), sums_of(told, tables, unit), list(fare_of(told, tables, meter, unit)))
