@@ -1,7 +1,7 @@
 //! The command `bench`.
-ghost use Rattle.bench_commands.specs.{Bench.{bench_command}, Common.{Carries}};
 ghost use Rattle.std.specs.Prelude.{◌≡◌};
-ghost use Rattle.store_commands.specs.SealedTariff.{MayLackTariff};
+ghost use Rattle.{store_commands.specs.SealedTariff.{MayLackTariff}, bench_commands.specs.Bench.{bench_command}};
+ghost use Rattle.bench_commands.specs.Common.{Carries};
 
 use crate::judgement::judgement;
 use call_ends::{Ended, print_made};

@@ -1,11 +1,10 @@
 //! Judges readings by a drive.
 ghost use Rattle.std.specs.Prelude.{ℕ, ◌≡◌, All, IfErr, IfOk, List, Ok, flat_map};
-ghost use Rattle.store_commands.specs.Opened.{also_told};
+ghost use Rattle.store_commands.specs.{Opened.{also_told}, SealedTariff.{MayLackSealed}};
 ghost use Rattle.bench_commands.specs.Bench.{bench_command, ended_for_readings};
 ghost use Rattle.bench_commands.specs.BenchSteps.{AreRefused, IsSealedBy, ended_with, judged_pass, judged_text};
 ghost use Rattle.bench_commands.specs.Common.{FailsOr, IsRunInRange, Makes, ReadsWord, end_made, readings_in};
 ghost use Rattle.bench_commands.specs.Common.{run_events, text_made, tree_of};
-ghost use Rattle.store_commands.specs.SealedTariff.{MayLackSealed};
 
 use crate::whole_drive::read_drive;
 use call_ends::{Ended, Made};

@@ -190,6 +190,24 @@ built nothing\ncommands: a checkout's scripts alone\nmore: docs/use/COMMANDS.md\
 /// A status of the taximeter.
 fn taxi_status_20() -> Topic {
     Topic {
+        names: "126",
+        text: "status 126\nwhat to do: the program could not be started, and nothing was carried out: in a \
+checkout remove what standard error names, and the next call builds it anew; where it is \
+installed, install it anew\ncommands: all\nmore: docs/use/COMMANDS.md\n",
+    }
+}
+
+/// A status of the taximeter.
+fn taxi_status_21() -> Topic {
+    Topic {
+        names: "127",
+        text: "status 127\nwhat to do: as 126\ncommands: all\nmore: docs/use/COMMANDS.md\n",
+    }
+}
+
+/// A status of the taximeter.
+fn taxi_status_22() -> Topic {
+    Topic {
         names: "126|127|129|130|131|132|133|134|135|136|137|138|139|140|141|142|143|144|145|146|147|148|149|150|151|152|153|154|155|156|157|158|159",
         text: "status above 125\nwhat to do: the program was ended from outside: the status is 128 and the \
 signal's number, 130 by Ctrl-C, 137 by a kill. After run see \"A run that broke off\"; else type \
@@ -221,6 +239,8 @@ pub(crate) fn taxi_status(place: usize) -> Option<Topic> {
         18 => Some(taxi_status_18()),
         19 => Some(taxi_status_19()),
         20 => Some(taxi_status_20()),
+        21 => Some(taxi_status_21()),
+        22 => Some(taxi_status_22()),
         _ => None,
     }
 }
@@ -228,9 +248,9 @@ pub(crate) fn taxi_status(place: usize) -> Option<Topic> {
 /// A status of the hiring log.
 fn log_status_0() -> Topic {
     Topic {
-        names: "0|FILED",
-        text: "status 0, printed last: FILED n\nwhat to do: nothing: the roll was read to its end, or the log \
-was shown whole\nmore: docs/use/HIRING_LOG.md\n",
+        names: "0|FILED|show|rows",
+        text: "status 0, printed last: FILED n; none of show and rows\nwhat to do: nothing: the roll was read \
+to its end, or the log was shown whole\nmore: docs/use/HIRING_LOG.md\n",
     }
 }
 
@@ -276,7 +296,7 @@ fn log_status_5() -> Topic {
     Topic {
         names: "5|ROLL TOO LONG",
         text: "status 5, printed last: ROLL TOO LONG\nwhat to do: part the roll; what was read of it is filed, \
-or printed by rows\nmore: docs/use/HIRING_LOG.md\n",
+or printed by rows or listed\nmore: docs/use/HIRING_LOG.md\n",
     }
 }
 
@@ -285,7 +305,7 @@ fn log_status_6() -> Topic {
     Topic {
         names: "7|READ FAULT",
         text: "status 7, printed last: READ FAULT\nwhat to do: see that the roll is there and may be read; what \
-was read of it is filed, or printed by rows\nmore: docs/use/HIRING_LOG.md\n",
+was read of it is filed, or printed by rows or listed\nmore: docs/use/HIRING_LOG.md\n",
     }
 }
 
@@ -303,7 +323,7 @@ it anew first\nmore: docs/use/HIRING_LOG.md\n",
 fn log_status_8() -> Topic {
     Topic {
         names: "12",
-        text: "status 12\nwhat to do: try again with more memory: nothing was filed\nmore: \
+        text: "status 12\nwhat to do: try again with more memory: nothing was done\nmore: \
 docs/use/HIRING_LOG.md\n",
     }
 }

@@ -1,12 +1,11 @@
 -- Stories end with their receipts.
 use Rattle.std.{specs.List.{AllZip}, proofs.lemmas.List.Elements.{All-nil, filter_map-append}}
 use Rattle.std.proofs.Common.{[], ◌++◌, ◌∙◌, ◌∷◌, ◌≡◌, List, Option, ap, append_assoc, flat_map, map, refl, subst, sym}
-use Rattle.{meter_model.specs.KeptTrip.{IsTripKept}, verify_bench.specs.{Receipts.{receipt_in}, Story.{end_of}}}
 use Rattle.story_laws.specs.ClosedStories.{EndsWith, GoesOn}
-use Rattle.story_laws.specs.Closings.{Closing, closings_from, closings_in, closings_of}
-use Rattle.story_laws.specs.Common.{Event, Meter, MeterTrip, Moment, Receipt, Setting, Telling, actions_of}
-use Rattle.story_laws.specs.Common.{display_told, displays_in, ended, first_state, happenings_of, moments_at}
-use Rattle.story_laws.specs.Common.{moments_of, opened, rate_told, receipts_in, run, step, stories_of, trip_at}
+use Rattle.story_laws.specs.{Closings.{Closing, closings_from, closings_in, closings_of}, Common.{trip_at}}
+use Rattle.story_laws.specs.Common.{Event, IsTripKept, Meter, MeterTrip, Moment, Receipt, Setting, Telling, actions_of}
+use Rattle.story_laws.specs.Common.{display_told, displays_in, end_of, ended, first_state, happenings_of, moments_at}
+use Rattle.story_laws.specs.Common.{moments_of, opened, rate_told, receipt_in, receipts_in, run, step, stories_of}
 use Rattle.story_laws.proofs.Stories.{AllGo, Passes, both, go_both, no_closing, one_closing, stories_match}
 use Rattle.story_laws.proofs.Told.{go_happenings, go_map, go_rate, on_displays}
 use Rattle.taxi_units.specs.declared.event.Event.TheVariants as events

@@ -2,15 +2,14 @@
 use Rattle.std.specs.Prelude.{if◌then◌else◌}
 use Rattle.std.proofs.Common.{[], ℕ, ◌++◌, ◌∙◌, ◌∷◌, ◌≡◌, Bool, List, None, Option, Some, ap, append_assoc, false}
 use Rattle.std.proofs.{Common.{flat_map, map, refl, sym, true}, lemmas.List.{append-nil, Elements.{filter_map-append}}}
-use Rattle.{taxi_units.specs.declared.receipt.Stamp.{Stamp}, story_laws.specs.Common.{stories_of, trip_at}}
-use Rattle.verify_bench.specs.Story.{display_in, end_of, is_line, moment_of, moments_from, parted_at, rate_in}
-use Rattle.verify_bench.specs.Story.{rate_line, stories_from, told_behind, untold}
+use Rattle.verify_bench.specs.Story.{moments_from, parted_at, stories_from, untold}
 use Rattle.story_laws.specs.ClosedStories.{amounts_in, amounts_of, left_behind, left_from, shown_at, shown_by}
 use Rattle.story_laws.specs.Common.{Act, Display, Event, ForHire, Happening, Hired, HiringStory, Kind, Meter, MeterTrip}
-use Rattle.story_laws.specs.Common.{Moment, Off, Operating, Outcome, Receipt, Setting, Stopped, Telling, actions_of}
-use Rattle.story_laws.specs.Common.{display_told, displays_in, ended, first_state, happenings_of, is_in_trip, kind_in}
-use Rattle.story_laws.specs.Common.{moments_at, moments_in, moments_of, opened, rate_told, receipts_in, run, step}
-use Rattle.story_laws.proofs.Told.{Each, Plain, plain_happenings}
+use Rattle.story_laws.specs.Common.{Moment, Off, Operating, Outcome, Receipt, Setting, Stamp, Stopped, Telling}
+use Rattle.story_laws.specs.Common.{actions_of, display_in, display_told, displays_in, end_of, ended, first_state}
+use Rattle.story_laws.specs.Common.{happenings_of, is_in_trip, is_line, kind_in, moment_of, moments_at, moments_in}
+use Rattle.story_laws.specs.Common.{moments_of, opened, rate_in, rate_line, rate_told, receipts_in, run, step}
+use Rattle.story_laws.{specs.Common.{stories_of, told_behind, trip_at}, proofs.Told.{Each, Plain, plain_happenings}}
 use Rattle.taxi_units.specs.declared.event.Event.TheVariants as events
 use Rattle.verify_bench.specs.declared.moment.Happening.TheVariants as happenings
 

@@ -1,14 +1,14 @@
 -- How moments part into stories, one for each closing.
-use Rattle.{std.specs.List.{AllZip}, meter_model.specs.{KeptTrip.{IsTripKept}, Run.{ended_in}, Step.{step_in}}}
+use Rattle.{std.specs.List.{AllZip}, meter_model.specs.Run.{ended_in}}
 use Rattle.std.proofs.Common.{[], ◌++◌, ◌∙◌, ◌∷◌, ◌≡◌, All, List, None, Option, Some, ap, append_assoc, refl, subst}
 use Rattle.std.proofs.{Common.{sym}, lemmas.List.{append-nil, Elements.{All-append, All-head, All-tail}}}
-use Rattle.{meter_model.specs.Meter.{quiet}, verify_bench.specs.Story.{untold}}
-use Rattle.verify_bench.specs.Story.{drop_told, moments_from, parted_at, refusals_told, stories_from, told_behind}
+use Rattle.verify_bench.specs.Story.{drop_told, moments_from, parted_at, stories_from, untold}
 use Rattle.story_laws.specs.ClosedStories.{GoesOn, left_behind, left_from}
 use Rattle.story_laws.specs.Closings.{Closing, closings_from, closings_in, closings_of}
-use Rattle.story_laws.specs.Common.{Event, ForHire, Happening, Hired, HiringStory, Kind, Meter, Moment, Off, Operating}
-use Rattle.story_laws.specs.Common.{Outcome, Setting, Stopped, Telling, ended, first_state, kind_in, moments_at}
-use Rattle.story_laws.specs.Common.{moments_in, moments_of, opened, run, step, stories_of, trip_at}
+use Rattle.story_laws.specs.Common.{Event, ForHire, Happening, Hired, HiringStory, IsTripKept, Kind, Meter, Moment, Off}
+use Rattle.story_laws.specs.Common.{Operating, Outcome, Setting, Stopped, Telling, ended, first_state, kind_in}
+use Rattle.story_laws.specs.Common.{moments_at, moments_in, moments_of, opened, quiet, refusals_told, run, step}
+use Rattle.story_laws.specs.Common.{step_in, stories_of, told_behind, trip_at}
 use Rattle.meter_model.proofs.Laws as states
 use Rattle.taxi_units.specs.declared.event.Event.TheVariants as events
 use Rattle.verify_bench.specs.declared.moment.Happening.TheVariants as happenings

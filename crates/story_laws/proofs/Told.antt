@@ -1,12 +1,12 @@
 -- What kinds of happenings an event is told by.
 use Rattle.std.{specs.Prelude.{⊤, ◌&&◌, if◌then◌else◌, nat_le}, proofs.lemmas.List.Elements.{All-cons, All-nil}}
 use Rattle.std.proofs.Common.{[], ℕ, ◌++◌, ◌+◌, ◌∷◌, Bool, List, None, Option, Some, false, flat_map, map, true}
-use Rattle.taxi_units.specs.declared.{event.{Key.{Key}, Why.{Why}}, receipt.Stamp.{Stamp}}
-use Rattle.verify_bench.specs.Story.{event_told, is_empty, is_line, is_there, key_told, latch_told, moment_of, rate_in}
-use Rattle.verify_bench.specs.Story.{rate_line, reading_told, reckoned, refusals_told, supply_told, whys_in}
-use Rattle.story_laws.{specs.{ClosedStories.{GoesOn}, Common.{rate_told}}, proofs.Stories.{AllGo}}
-use Rattle.story_laws.specs.Common.{Display, Event, ForHire, Happening, Hired, Meter, MeterTrip, Moment, Off, Operating}
-use Rattle.story_laws.specs.Common.{Outcome, Setting, Stopped, Telling, display_told, happenings_of, is_in_trip}
+use Rattle.verify_bench.specs.Story.{event_told, is_there, reading_told, reckoned, supply_told}
+use Rattle.story_laws.specs.{ClosedStories.{GoesOn}, Common.{rate_in, rate_line, rate_told, refusals_told, whys_in}}
+use Rattle.story_laws.specs.Common.{Display, Event, ForHire, Happening, Hired, Key, Meter, MeterTrip, Moment, Off}
+use Rattle.story_laws.specs.Common.{Operating, Outcome, Setting, Stamp, Stopped, Telling, Why, display_told}
+use Rattle.story_laws.specs.Common.{happenings_of, is_empty, is_in_trip, is_line, key_told, latch_told, moment_of}
+use Rattle.story_laws.proofs.Stories.{AllGo}
 use Rattle.taxi_units.specs.declared.event.Event.TheVariants as events
 use Rattle.taxi_units.specs.declared.event.Key.TheVariants as keys
 use Rattle.verify_bench.specs.declared.moment.Happening.TheVariants as happenings

@@ -2,12 +2,11 @@
 use Rattle.std.specs.{List.{filter_map}, Prelude.{if◌then◌else◌, map, nat_le, sum}}
 use Rattle.std.specs.Prelude.{[], ℕ, ⊤, ◌++◌, ◌∷◌, ◌≡◌, ◌≤◌, All, List, None, Option, Some, flat_map, get_or}
 use Rattle.{drive_modes.specs.Distance.{millimetres_of}, tariff_tree.specs.declared.context.Context.{Context}}
-use Rattle.{tariff_check.specs.SoundTariff.{lines_of}, meter_model.specs.Setting.{stamp_at}}
-use Rattle.meter_model.specs.{Interval.{context_now, pulses_so_far, ticks_so_far}, Trip.{InHired, Part, ticks_in}}
-use Rattle.verify_bench.specs.{Fees.{fees_of_hiring}, declared.moment.Happening.TheVariants.{Ended, Hired, Rate, Shown}}
-use Rattle.{verify_bench.specs.Groups.{rate_place_of}, story_laws.specs.Common.{displays_in, is_in_trip, kind_in}}
-use Rattle.story_laws.specs.Closings.{Closing}
-use Rattle.story_laws.specs.Common.{Act, Display, Happening, HiringStory, Kind, Meter, MeterTrip, Moment, Setting}
+use Rattle.{tariff_check.specs.SoundTariff.{lines_of}, meter_model.specs.{Interval.{pulses_so_far}, Trip.{InHired}}}
+use Rattle.{verify_bench.specs.Groups.{rate_place_of}, story_laws.specs.{Closings.{Closing}, Common.{ticks_so_far}}}
+use Rattle.verify_bench.specs.declared.moment.Happening.TheVariants.{Ended, Hired, Rate, Shown}
+use Rattle.story_laws.specs.Common.{Act, Display, Happening, HiringStory, Kind, Meter, MeterTrip, Moment, Part, Setting}
+use Rattle.story_laws.specs.Common.{context_now, displays_in, fees_of_hiring, is_in_trip, kind_in, stamp_at, ticks_in}
 
 -- ---- the end
 
@@ -118,3 +117,7 @@ abbrev pub Rise : (ticks pulses : ℕ) → List Moment → Type 0
 Rise ticks pulses [] = Unit {0}
 Rise ticks pulses (moment ∷ moments) =
     (ticks ≤ moment.ticks) × (pulses ≤ moment.pulses) × Rise moment.ticks moment.pulses moments
+
+-- a story rises if its moments rise from no tick and no pulse on
+abbrev pub Rises : Closing → HiringStory → Type 0
+Rises c story = Rise 0 0 story.moments

@@ -3,4 +3,7 @@
 
 mod story_laws;
 
-pub use story_laws::{stories_end_with_their_receipts, stories_show_what_the_run_shows};
+pub use story_laws::{
+    intervals_are_charged_by_the_line_told, stories_begin_with_their_hirings,
+    stories_end_with_their_receipts, stories_show_what_the_run_shows, ticks_and_pulses_never_fall,
+};
