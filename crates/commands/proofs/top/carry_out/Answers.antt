@@ -22,7 +22,7 @@ pub returns-in-Run : goal.returns-in-Run
 returns-in-Run g c = rw c.in-Run.is (record { carries = c.run.ensures.carries; comes = c.run.ensures.runs })
 
 pub returns-in-Bench : goal.returns-in-Bench
-returns-in-Bench g c = rw c.in-Bench.is (record { carries = c.bench.ensures; comes = tt })
+returns-in-Bench g c = rw c.in-Bench.is (record { carries = c.bench.ensures.carries; comes = tt })
 
 pub returns-in-Port : goal.returns-in-Port
 returns-in-Port g c = rw c.in-Port.is (record { carries = c.serve_requests.ensures; comes = tt })
