@@ -3,7 +3,7 @@
 from fractions import Fraction
 from math import ceil, floor
 
-from faults import RARE, SMALL, after, every_tick, kilometres, speed, wrong
+from faults import RARE, SMALL, every_tick, kilometres, speed, wrong
 from faults.known import A_STEP, PERMITTED, long_stand, more, of_trip, put, unit
 
 

@@ -2,7 +2,7 @@
 
 from fractions import Fraction
 
-from faults import RARE, SMALL, UNSEEN, after, every_tick, kilometres, speed, wrong
+from faults import RARE, SMALL, UNSEEN, after, every_tick, kilometres, wrong
 from faults.known import PERMITTED, fee_again, more, of_trip, pulses_between, put, scaled, unit
 
 
