@@ -23,7 +23,8 @@ def a_release(tmp_path):
     tree = tmp_path / "unpacked"
     for name in [*LINKED, "VERSION", "libexec/taxi_cli"]:
         (tree / name).parent.mkdir(parents=True, exist_ok=True)
-        (tree / name).write_text(f"{name}\n")
+        # A program of a release, which is started once before it is installed.
+        (tree / name).write_text("#!/bin/sh\n" if name.startswith("bin/") else f"{name}\n")
     shutil.copy(TOP / "bin/install", tree / "bin/install")
     (tree / "INSTALLED").write_text("version 0\n")
     names = sorted(str(path.relative_to(tree)) for path in tree.rglob("*") if path.is_file())

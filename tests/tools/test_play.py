@@ -4,7 +4,6 @@ the pipe shows what it shows of the files."""
 import io
 import subprocess
 
-import pytest
 from heglorwy.officer.playing import Player
 from support import built
 
@@ -33,10 +32,10 @@ class Timed(io.BytesIO):
         self.times.append(round(self.clock.now, 3))
 
 
-def played(in_time, read=0):
+def played(in_time):
     clock = Clock()
     out = Timed(clock)
-    Player(out, in_time, read, lambda: clock.now, clock.wait).drive(DRIVE)
+    Player(out, in_time, lambda: clock.now, clock.wait).drive(DRIVE)
     return out.getvalue().decode().splitlines(), out.times
 
 
@@ -52,14 +51,6 @@ def test_at_once():
     """Nothing is waited for, and no line is another one."""
     lines, times = played(False)
     assert lines == [*DRIVE.decode().splitlines()[1:], "D"] and set(times) == {0.0}
-
-
-@pytest.mark.parametrize("in_time", [True, False])
-def test_waits_to_be_read(in_time):
-    """Only before the Clear that ends a hiring it waits so long."""
-    lines, times = played(in_time)
-    clear = lines.index("K C")
-    assert played(in_time, 7) == (lines, [*times[:clear], *(round(time + 7, 3) for time in times[clear:])])
 
 
 def test_through_a_pipe(sealed, tmp_path):

@@ -4,7 +4,6 @@ made once; each report makes it again, which is done once here too."""
 
 import argparse
 import pathlib
-import re
 import shutil
 
 import pytest
@@ -145,17 +144,6 @@ def test_recorded_drives(scratch, folder, right):
             0 if is_as_listed else 11, not is_as_listed
         )
         path.write_bytes(text)
-
-
-@pytest.mark.parametrize("later, status", [(5, 0), (60, 11)])
-def test_recorded_minute(first, folder, right, monkeypatch, later, status):
-    """Where the clock has to be set, a recorded drive begins in the listed minute."""
-    kit = first[1]._replace(drives=[drive._replace(needs_clock=True) for drive in first[1].drives])
-    monkeypatch.setattr(kit_folder, "made", lambda taxi, asked: kit)
-    path = next((folder / "kit").glob("*_stopped.drive"))
-    shifted = lambda found: f"{found[1]} {int(found[2]) + later}"
-    path.write_text(re.sub(r"(?m)^([CU]) (\d+)$", shifted, path.read_text()))
-    assert reported(folder, right)[1] == status
 
 
 def test_form(folder, right):

@@ -3,29 +3,41 @@ fare of an ordinary trip are told; those that lie on a few dates, minutes or spe
 reason that the tables of faults/ say. Right meters that are a little beside pass."""
 
 import re
+from fractions import Fraction
 
 import pytest
-from faults import ORDINARY, RARE, SMALL, UNSEEN
-from faults.known import KNOWN
+from faults import ORDINARY, SMALL, UNSEEN, wrong
+from faults.known import KNOWN, scaled
 from faults.made import MADE
 from heglorwy.tariff import read_tariff
-from missed import names_in
 from support import built
 from support.drives import ordinary_trip
-from trials import BESIDE, FAULTS, FURTHER, PARAMS, TARIFFS, Drives, cheat, made, meter_part_of
+from trials import FAULTS, Drives, cheat, made, meter_part_of
 
-SEEDS, PAGE = [1, 2, 3, 4, 5], built.TOP / "docs/use/WRONG_METERS.md"
+TARIFFS = {
+    "city": built.CITY, "night": built.TOP / "examples/night.tariff",
+    "port": built.TOP / "tests/tools/officer/tariffs/port.tariff",
+}
+PARAMS = built.PARAMS.read_text()
+SEEDS = [1, 2, 3, 4, 5]
 # Left to the hirings for the tariff, which test_whole_kits has drive too.
 BY_TARIFF = {
     "a supplement is taken once more than the tariff says", "a supplement that isn't in the tariff is taken for 20.00",
     "there are nine zones", "standing is charged twice from the fifth minute on",
     "half of an `and` is lost in the rates",
     "the hire fee is +2 steps; the cover is 2 steps more", "the trip goes on behind a minute more than the hold time",
-    "standing is free from the tenth minute on", "what a pulse costs is cut to a thousandth",
-    "the tens are shown as 2 where they are 3", "distance alone is charged from the twentieth minute on",
-    "standing costs half from the second minute on", "standing costs twice from the eighth minute on",
-    "standing costs 2 % more", "the hire fee is -3 steps; and the cover isn't given",
+    "standing is free from the tenth minute on",
 }
+BESIDE = [
+    wrong("0.05 % more pulses", heard=scaled(Fraction(10_005, 10_000))),
+    wrong("0.05 % less pulses", heard=scaled(Fraction(9995, 10_000))),
+    wrong("the clock is 0.02 % slow", tick=Fraction(9998, 10_000)),
+    wrong("the clock is a second fast", read_clock=lambda my, was, second: was(second + 1),
+          power_up=lambda my, was, second: was(second + 1)),
+    wrong("the clock is a second slow", read_clock=lambda my, was, second: was(second - 1),
+          power_up=lambda my, was, second: was(second - 1)),
+]
+
 
 @pytest.fixture(scope="module", name="parsed")
 def _parsed(scratch):
@@ -47,7 +59,7 @@ def _parts(parsed):
 
 def test_how_many():
     """There are as many as the pages say, each by a name of its own."""
-    assert (len(KNOWN), len(MADE), len(FURTHER), len({fault.name for fault in FAULTS})) == (57, 109, 141, 307)
+    assert (len(KNOWN), len(MADE), len({fault.name for fault in FAULTS})) == (57, 109, 166)
     assert all(fault.reason or fault.weight == ORDINARY for fault in FAULTS)
 
 
@@ -60,15 +72,8 @@ def test_told_by_the_part_for_the_meter(parts, fault):
 
 
 @pytest.mark.parametrize("fault", BESIDE, ids=lambda fault: fault.name)
-@pytest.mark.parametrize("tariff", TARIFFS)
-def test_right_meters_a_little_beside(parts, tariff, fault):
-    assert parts(tariff, SEEDS[0]).told_by(fault.meter()) is None
-
-
-def test_the_page():
-    """It names each wrong meter that passes, and each that some seeds tell."""
-    for table, weights in (("passing", (SMALL, UNSEEN)), ("rare", (RARE,))):
-        assert sorted(names_in(PAGE, table)) == sorted(fault.name for fault in FAULTS if fault.weight in weights)
+def test_right_meters_a_little_beside(parts, fault):
+    assert parts("city", SEEDS[0]).told_by(fault.meter()) is None
 
 
 def test_who_knows_a_kit(parts):

@@ -5,45 +5,23 @@ import functools
 import pathlib
 import re
 import subprocess
-from fractions import Fraction
 from typing import NamedTuple
 
-from faults import Watched, wrong
-from faults.amounts import AMOUNTS
-from faults.driving import DRIVING
-from faults.known import KNOWN, knows, scaled
+from faults import Watched
+from faults.known import KNOWN, knows
 from faults.made import MADE
-from faults.times import TIMES
 from heglorwy.meter import Meter
 from heglorwy.officer.judging import EQUAL, WITHIN, values_of
 from heglorwy.officer.kit import Asked
 from heglorwy.officer.levels import most
 from heglorwy.officer.meter_part import meter_part
-from heglorwy.officer.progress import Progress
 from heglorwy.officer.readings import Reading
 from heglorwy.officer.ride import text_of
 from heglorwy.tariff import Tariff
-from support import built
 from support.fraction_meter import meter_of
 
 TOP = pathlib.Path(__file__).resolve().parents[3]
-FURTHER = [*AMOUNTS, *DRIVING, *TIMES]
-FAULTS = [*KNOWN, *MADE, *FURTHER]
-TARIFFS = {
-    "city": built.CITY, "night": built.TOP / "examples/night.tariff",
-    "port": built.TOP / "tests/tools/officer/tariffs/port.tariff",
-}
-PARAMS = built.PARAMS.read_text()
-# Right meters that are a little beside.
-BESIDE = [
-    wrong("0.05 % more pulses", heard=scaled(Fraction(10_005, 10_000))),
-    wrong("0.05 % less pulses", heard=scaled(Fraction(9995, 10_000))),
-    wrong("the clock is 0.02 % slow", tick=Fraction(9998, 10_000)),
-    wrong("the clock is a second fast", read_clock=lambda my, was, second: was(second + 1),
-          power_up=lambda my, was, second: was(second + 1)),
-    wrong("the clock is a second slow", read_clock=lambda my, was, second: was(second - 1),
-          power_up=lambda my, was, second: was(second - 1)),
-]
+FAULTS = [*KNOWN, *MADE]
 
 
 def expected_of(closed):
@@ -73,8 +51,7 @@ def stand_in(tariff, params):
 
 def meter_part_of(tariff, params, seed, fastest=100, is_on_bench=False):
     """The hirings for the meter of a seed."""
-    asked = Asked(fastest, 72_000, is_on_bench, False, False, seed)
-    return meter_part(stand_in(tariff, params), asked, Progress())
+    return meter_part(stand_in(tariff, params), Asked(fastest, 72_000, is_on_bench, False, False, seed))
 
 
 class Drives:

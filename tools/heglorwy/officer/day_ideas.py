@@ -3,7 +3,6 @@ changes of local time, and a holiday."""
 
 import datetime
 import functools
-import random
 
 from heglorwy.officer.ideas import Idea, foil
 from heglorwy.officer.ride import at, far, key, stand
@@ -13,16 +12,14 @@ END = key("S", "C")
 NO_TIME = "the tariff asks for no time"
 
 
-def short(town, draw, second, low=500, high=1000, place=(1, 1)):
-    """A hiring of a minute at a second; a longer one is driven fast."""
-    kmh = town.fastest * 0.97 if low > 2000 else town.speed(draw, 60, 80)
-    keys = key(f"P {place[0]}", f"Z {place[1]}") if place != (1, 1) else []
-    return [at(second), *keys, *key("H"), far(kmh, draw.uniform(low, high)), *END]
+def short(town, draw, second, low=650, high=850):
+    """A hiring of a minute at a second."""
+    return [at(second), *key("H"), far(town.speed(draw, 60, 80), draw.uniform(low, high)), *END]
 
 
 def over_border(town, draw, longer, border, day=None):
     """A trip that begins some minutes before a border, and ends behind it."""
-    before, behind = (60 * longer * draw.uniform(2.2, 3.2) for _ in range(2))
+    before, behind = (60 * longer * draw.uniform(2.5, 4) for _ in range(2))
     start = town.moment(draw, day or draw.choice(town.days), border)
     acts = [at(int(start - LATE - before)), *placed(town, draw), *key("H")]
     acts += [
@@ -38,13 +35,10 @@ def placed(town, draw):
     return key(f"P {position}", f"Z {zone}")
 
 
-def over_midnight(town, draw, longer, is_by_holiday):
-    """A trip into another kind of day: into a holiday or out of it, or from one weekday into another."""
-    around = {day + datetime.timedelta(days=by) for day in town.holidays for by in (0, 1)}
-    days = [day for day in town.days if (day in around) == is_by_holiday]
-    if not days:
-        return f"midnight{' by a holiday' * is_by_holiday}: no such day"
-    return over_border(town, draw, longer, 0, draw.choice(days))
+def over_midnight(town, draw, longer):
+    """A trip into another kind of day."""
+    days = sorted(town.holidays & set(town.days)) if "holiday" in town.asks and draw.random() < 0.5 else town.days
+    return over_border(town, draw, longer, 0, draw.choice(days or town.days))
 
 
 def days_of(town, weekday, is_summer):
@@ -52,10 +46,9 @@ def days_of(town, weekday, is_summer):
     return [day for day in some if town.is_summer(day) == is_summer]
 
 
-def a_weekday(town, draw, longer, weekday, is_summer, number, turn):
+def a_weekday(town, draw, _, weekday, is_summer, number):
     """A hiring on a weekday beside a border of time; the same hour of each other weekday is its foil. Months take
-    turns, and borders, of which the seed draws the first. In one half of the year one of the hirings is longer. Later
-    tries are in other places."""
+    turns."""
     days = days_of(town, weekday or draw.randint(1, 7), is_summer)
     if not days:
         return f"weekday {weekday}: no such day"
@@ -64,15 +57,12 @@ def a_weekday(town, draw, longer, weekday, is_summer, number, turn):
     half = [day for day in days if day.month == month and (day.day > 15) == bool(number % 2)]
     day = draw.choice(half or [day for day in days if day.month == month])
     borders = town.borders or [draw.randrange(60, 1380)]
-    border = borders[(day.isoweekday() + is_summer + turn) % len(borders)]
+    border = borders[(day.isoweekday() + is_summer) % len(borders)]
     minutes = border - draw.randint(5, 50), border + draw.randint(5, 50)
     seconds = [town.second(day, minute) for minute in minutes]
     if None in seconds:
         return Idea(*unfit(town, draw))
-    ways = [(2300, 2800) if is_summer else (500, 1000), (500, 1000)]
-    draw.shuffle(ways)
-    place = (1, 1) if longer == 1 else town.place(draw)
-    acts = [act for second, way in zip(seconds, ways) for act in short(town, draw, second + LATE, *way, place)]
+    acts = [act for second in seconds for act in short(town, draw, second + LATE)]
     half = len(acts) // 2
     foils = []
     for by in range(1, 7):
@@ -126,9 +116,8 @@ def a_holiday(town, draw, _):
                 [foil(said, [at(town.moment(draw, next_week, minute)), *acts[1:], *behind])])
 
 
-def ideas(town, seed):
+def ideas(town):
     """The ideas by their names; a sentence where the tariff gives no occasion."""
-    turn = random.Random(f"{seed} borders").randrange(1440)
     if not town.asks_for_time:
         return {"weekdays": f"days and hours: {NO_TIME}"}
     found = {
@@ -136,17 +125,13 @@ def ideas(town, seed):
             over_border, border=border
         ) for border in town.borders if border
     }
-    found["midnight"] = functools.partial(over_midnight, is_by_holiday=False)
-    if "holiday" in town.asks:
-        found["midnight_by_a_holiday"] = functools.partial(over_midnight, is_by_holiday=True)
+    found["midnight"] = over_midnight
     number, some = 0, range(1, 8) if town.asks & {"day", "holiday"} else [None] * 3 * ("date" in town.asks)
     found |= {} if some else {"weekdays": "weekdays: the tariff asks for none, and for no date"}
     for is_summer in (False, True):
         for weekday in some:
             name = f"{'summer' if is_summer else 'winter'}_{weekday or number}"
-            found[name] = functools.partial(
-                a_weekday, weekday=weekday, is_summer=is_summer, number=number, turn=turn
-            )
+            found[name] = functools.partial(a_weekday, weekday=weekday, is_summer=is_summer, number=number)
             number += 1
     for begins, by in town.changes():
         for is_behind in (False, True):

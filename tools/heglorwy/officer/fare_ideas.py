@@ -5,7 +5,7 @@ from heglorwy.officer.ride import at, far, go, key, lose, stand
 from heglorwy.officer.trip_ideas import END, held, placed
 from heglorwy.tariff_parts import atoms_of
 
-FAR = [39_200, 52_000, 65_000, 80_000]  # metres
+FAR = [40_000, 52_000, 65_000, 80_000]  # metres
 
 
 def dear(town, draw, longer):
@@ -20,7 +20,7 @@ def dear(town, draw, longer):
         )
     ]
     place = places[max(range(len(places)), key=lambda at_: fares[1 + at_])]
-    ways = [metres * draw.uniform(1, 1.03) for metres in FAR]
+    ways = [metres * draw.uniform(1, 1.04) for metres in FAR]
     fares = [
         fares[0] for fares in explained(
             program, trip(place, ways[0]), [foil("", trip(place, metres)) for metres in ways]
@@ -37,7 +37,9 @@ def minimum(town, draw, longer):
     if not town.minima:
         return "a hiring under a minimum fare: the tariff has none"
     line = draw.choice(town.minima)
-    start = [at(moment_of(town, draw, line)), *placed(*place_of(town, draw, line)), *key("H")]
+    place = {atom[0]: atom[1] for atom in atoms_of(line.when) if atom[0] in ("position", "zone")}
+    start = [at(moment_of(town, draw, line))]
+    start += [*placed(place.get("position", 1), place.get("zone", 1)), *key("H")]
     end = [*key(*(f"E {number}" for number in list(town.supplements)[:2])), lose(held(town, draw)), go(30, 5), *END]
     acts = [*start, go(30, 20), *end]
     said = "a meter that counts supplements into a minimum fare, or forgets it at a loss of supply"
@@ -45,28 +47,17 @@ def minimum(town, draw, longer):
     return Idea(acts, [[said]], [] if fares[0] == fares[1] else [foil(said, acts)])
 
 
-def place_of(town, draw, line):
-    """A position and a zone in which a line may hold: those that it asks for, or any."""
-    asked = {atom[0]: atom[1] for atom in atoms_of(line.when) if atom[0] in ("position", "zone")}
-    return (asked.get("position", 1), asked.get("zone", 1)) if draw.random() < 0.5 else town.place(draw)
-
-
-def days_of(town, draw, line):
-    """Days on which a line may hold."""
-    days = town.days
+def moment_of(town, draw, line):
+    """A second at which a line may hold: by its weekdays, dates and hours, or beside any border of time."""
+    days, minutes = town.days, town.edges(draw)
     for kind, *inner in atoms_of(line.when) if draw.random() < 0.7 else ():
         if kind == "day":
             days = [day for day in days if is_within(day.isoweekday(), *inner)] or days
         elif kind == "date":
             days = [day for day in days if is_within((day.month, day.day), *inner)] or days
-    return days
-
-
-def moment_of(town, draw, line):
-    """A second at which a line may hold: by its weekdays, dates and hours, or beside any border of time."""
-    hours = [atom[1] for atom in atoms_of(line.when) if atom[0] == "minute"]
-    minutes = [(draw.choice(hours) + draw.randint(5, 50)) % 1440] if hours and draw.random() < 0.7 else town.edges(draw)
-    return town.moment(draw, draw.choice(days_of(town, draw, line)), draw.choice(minutes))
+        elif kind == "minute":
+            minutes = [(inner[0] + draw.randint(5, 50)) % 1440]
+    return town.moment(draw, draw.choice(days), draw.choice(minutes))
 
 
 def is_within(value, first, last):
@@ -75,17 +66,16 @@ def is_within(value, first, last):
 
 def minimum_border(town, draw, longer):
     """A short hiring over a border of time at which another minimum fare would hold."""
-    borders = [(line, minute) for line in town.minima for atom in atoms_of(line.when) if atom[0] == "minute"
-               for minute in atom[1:]]
+    borders = sorted(
+        {minute for line in town.minima for atom in atoms_of(line.when) if atom[0] == "minute" for minute in atom[1:]}
+    )
     if not borders:
         return "a hiring over the border of a minimum fare: none hangs on the time"
-    line, border = draw.choice(borders)
-    day = draw.choice(days_of(town, draw, line))
+    border, day = draw.choice(borders), draw.choice(town.days)
     start = town.moment(draw, day, border) - draw.randint(40, 60)
-    acts = [at(start), *placed(*place_of(town, draw, line)), *key("H"), go(30, draw.uniform(5, 10)), stand(60), *END]
+    acts = [at(start), *key("H"), go(30, draw.uniform(5, 10)), stand(60), *END]
     return Idea(acts, [[f"a meter that chooses the minimum fare at the end, {border // 60:02}:{border % 60:02}"]],
                 [foil("a meter that chooses the minimum fare at the end", [at(start + 120), *acts[1:]])])
 
 
-IDEAS = {"dear": dear}
-MINIMA = {"minimum": minimum, "minimum_border": minimum_border}
+IDEAS = {"minimum": minimum, "minimum_border": minimum_border, "dear": dear}

@@ -5,7 +5,7 @@ import random
 from typing import NamedTuple
 
 from heglorwy.officer.levels import most
-from heglorwy.officer.ride import parted, text_of
+from heglorwy.officer.ride import text_of
 from heglorwy.officer.turns import step_of
 
 TRIES = 12  # of each idea, with other draws
@@ -32,7 +32,7 @@ def foil(said, acts, **how):
 
 
 def closings(acts):
-    return len(parted(acts))
+    return sum(act.what == "key" and act.value == "C" for act in acts)
 
 
 def explained(program, acts, foils):

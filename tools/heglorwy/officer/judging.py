@@ -10,7 +10,7 @@ from decimal import Decimal
 from typing import NamedTuple
 
 from heglorwy.fineness import compare_speeds, finenesses
-from heglorwy.officer.kit_folder import is_near, keys_in, kit_in, minutes_in, needs_of
+from heglorwy.officer.kit_folder import is_near, keys_in, kit_in, needs_of
 from heglorwy.officer.levels import most
 from heglorwy.officer.readings import EXACT, QUANTITIES, Reading, in_order, readings_in
 from heglorwy.officer.sealed import params_for
@@ -253,14 +253,13 @@ def hirings_of(bench, drive, expected, readings, before, kit):
 
 
 def was_driven_as_made(bench, kit, drive, expected):
-    """Whether a drive is that of its kit, or was recorded while it was driven so: with the same keys, about as far and
-    as long, and in the listed minutes where the clock has to be set."""
-    made = kit.by_name.get(drive.name)  # None where the kit wasn't made again
-    if made is None or made.text == drive.text:
+    """Whether a drive is that of its kit, or was recorded while it was driven so."""
+    made = kit.texts.get(drive.name)  # None where the kit wasn't made again
+    if made in (None, drive.text):
         return True
-    return keys_in(drive.text) == keys_in(made.text) and not (
-        made.needs_clock and minutes_in(drive.text) != minutes_in(made.text)
-    ) and is_near(bench.expected(Drive(drive.name, made.text)), expected, bench.step)
+    return keys_in(drive.text) == keys_in(made) and is_near(
+        bench.expected(Drive(drive.name, made)), expected, bench.step
+    )
 
 
 def judged_of(bench, hirings, drives, crossovers, readings, kit):

@@ -15,7 +15,6 @@ from heglorwy.officer.listing import listing
 from heglorwy.officer.matrix import Case, Matrix
 from heglorwy.officer.meter_part import meter_part
 from heglorwy.officer.moving import Moving
-from heglorwy.officer.progress import Progress
 from heglorwy.officer.search import Search
 from heglorwy.officer.turns import turns_of
 from heglorwy.program import Refused, Scratch
@@ -49,10 +48,10 @@ class Asked(NamedTuple):
 class Kit:
     """The hirings of a kit, and what is said of them."""
 
-    def __init__(self, program, asked, progress):
-        self.program, self.asked, self.progress = program, asked, progress
+    def __init__(self, program, asked):
+        self.program, self.asked = program, asked
         self.search = Search(program, asked.fastest, asked.longest)
-        self.matrix = Matrix(program, self.level_of, progress)
+        self.matrix = Matrix(program, self.level_of)
         self.beside = Beside(program, self.search.step)
         self.reasons = {}  # of what no drive tells as it should
         self.found = {}  # the hiring that was found for a turn
@@ -66,15 +65,14 @@ class Kit:
         """Finds the hirings for the tariff, and gives the places of those that are chosen."""
         for purpose, hiring in fixed(self.program, self.search.fast, self.asked.with_expiry):
             self.matrix.add(hiring, purpose)
-        turns = turns_of(self.program.tariff, self.asked.with_days)
-        for turn in self.progress.over("hirings for the tariff: wrong tariffs", turns):
+        for turn in turns_of(self.program.tariff, self.asked.with_days):
             self.follow(turn)
         self.add_cross_overs()
         self.add_parameters()
         self.matrix.complete()
         Joining(self.matrix, self.search.ends, self.asked.longest).join(self.chosen())
         chosen = self.chosen()
-        for case in self.progress.over("which hiring tells which wrong tariff", self.matrix.cases.values()):
+        for case in list(self.matrix.cases.values()):
             self.matrix.tried(case, chosen)
         chosen = Moving(self, random.Random(f"{self.asked.seed} moving")).moved(self.chosen(among=chosen))
         self.program.explain([self.matrix.hirings[at] for at in chosen])
@@ -153,9 +151,8 @@ def made(taxi, words):
     seed = secrets.randbelow(SEEDS) if words.seed is None else words.seed
     asked = Asked(words.fastest, words.longest * MINUTES, words.bench, words.days, words.expiry, seed)
     program = Program(taxi, words)
-    progress = Progress()
-    part = meter_part(program, asked, progress)
-    kit = Kit(program, asked, progress)
+    part = meter_part(program, asked)
+    kit = Kit(program, asked)
     return listing(kit, kit.make(), part)
 
 

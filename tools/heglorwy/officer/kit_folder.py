@@ -5,7 +5,6 @@ import pathlib
 import re
 
 from heglorwy.officer.kit import made
-from heglorwy.officer.ride import closes
 from heglorwy.program import Refused
 
 LIST = "list.txt"
@@ -24,7 +23,7 @@ class KitFolder:
     def __init__(self, words, kit):
         self.words, self.kit = words, kit
         self.drives = kit.drives if kit else []
-        self.by_name = {drive.name: drive for drive in self.drives}
+        self.texts = {drive.name: drive.text for drive in self.drives}
 
 
 def kit_in(taxi, asked, is_made):
@@ -51,7 +50,7 @@ def compare(folder, text, found):
     if text != found.kit.text:
         raise Refused(2, f"{folder / LIST}: `tools/verify drives {found.words}` makes another list for this meter")
     names = {path.name for path in folder.glob("*.drive")}
-    for name in sorted(names ^ set(found.by_name)):
+    for name in sorted(names ^ set(found.texts)):
         raise Refused(2, f"{folder / name}: is {'no drive of this kit' if name in names else 'not there'}")
 
 
@@ -62,19 +61,6 @@ def lines_of(text):
 def keys_in(text):
     """The keys and the losses of supply of a drive, in order."""
     return [line for line in text.decode("latin-1").splitlines() if line[:1] == "K" or line == "D"]
-
-
-def minutes_in(text):
-    """The minute of the clock in which each hiring of a drive begins."""
-    minutes, clock, is_free, lines = [], 0, True, lines_of(text)
-    ends = closes(rest[0] for word, *rest in lines if word == "K")
-    for word, *rest in lines:
-        if word in ("U", "C"):
-            clock = int(rest[0])
-        elif word == "K":
-            minutes += [clock // 60] * (is_free and rest[0] == "H")
-            is_free = next(ends) or is_free and rest[0] != "H"
-    return minutes
 
 
 def is_near(made, driven, step):
@@ -90,14 +76,13 @@ def needs_of(text, expected):
     """Which further columns have to be read of each hiring: those in which something is expected that isn't usual, or
     for which a key is pressed, and the receipt where the supply is lost."""
     needs = [{name for name, usual in USUAL.items() if wanted[name] != usual} for wanted in expected]
-    parts, pressed, lines = [], set(), lines_of(text)
-    ends = closes(rest[0] for word, *rest in lines if word == "K")
-    for word, *rest in lines:
+    parts, pressed = [], set()
+    for word, *rest in lines_of(text):
         if word == "K":
             pressed |= {KEYS[rest[0]]} if rest[0] in KEYS else set()
         elif word == "D":
             pressed.add("receipt")
-        if word == "K" and next(ends):
+        if (word, *rest) == ("K", "C"):
             parts.append(pressed)
             pressed = set()
     parts += [pressed] * (len(parts) + 1 == len(needs))  # the last one isn't cleared

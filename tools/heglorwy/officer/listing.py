@@ -11,7 +11,7 @@ from heglorwy.drives import SECOND
 from heglorwy.officer.hirings import drive_file
 from heglorwy.officer.levels import NOT_TOLD, SAID, SHORT_OF_STEPS
 from heglorwy.officer.meter_part import drive_text
-from heglorwy.officer.ride import moment, parted, words_of
+from heglorwy.officer.ride import moment, words_of
 from heglorwy.tables import money
 from heglorwy.tariff_parts import atoms_in, of_kind
 
@@ -26,15 +26,13 @@ SLUGS = [
 
 
 class KitDrive(NamedTuple):
-    """A drive of a kit: its name and text, the number of its first hiring, what each of its hirings is for, and whether
-    the clock has to be set for them."""
+    """A drive of a kit: its name and text, the number of its first hiring, and what each of its hirings is for."""
 
     name: str
     text: bytes
     first: int
     purposes: list
     is_for_meter: bool
-    needs_clock: bool
 
 
 class Made(NamedTuple):
@@ -112,9 +110,7 @@ class Lister:
         self.share()
 
     def share(self):
-        """Gives each case to the first hiring that tells it best, if there is one that hangs on no pulse and no second;
-        keeps those that none tells, or tells less well."""
-        unsteady = [at for at in self.places if self.kit.matrix.hirings[at] in self.kit.beside.hangs]
+        """Gives each case to the first hiring that tells it best; keeps those that none tells, or tells less well."""
         for title, row in self.kit.matrix.rows.items():
             best = max((row.get(at, NOT_TOLD) for at in self.places), default=NOT_TOLD)
             if best == NOT_TOLD:
@@ -122,8 +118,7 @@ class Lister:
                 reason = hangs if max(row.values(), default=NOT_TOLD) > NOT_TOLD else self.kit.reasons.get(title)
                 self.untold.append((title, reason or "no fare shows it"))
                 continue
-            tellers = [at for at in self.places if row.get(at) == best]
-            at = next((at for at in tellers if at not in unsteady), tellers[0])
+            at = next(at for at in self.places if row.get(at) == best)
             self.purposes[self.kit.matrix.hirings[at]].append(f"{title} ({SAID[best]})")
             turn = self.kit.matrix.cases[title].turn
             if turn and best < turn.wanted and best != SHORT_OF_STEPS:
@@ -175,9 +170,9 @@ class Lister:
             f" not told: {len(self.untold)}",
         ]
 
-    def entry(self, number, hiring, name, needs_clock):
+    def entry(self, number, hiring, name):
         """The lines of the list on a hiring for the tariff."""
-        clock = "set the clock" if needs_clock else "at any time"
+        clock = "set the clock" if self.needs_clock(hiring) else "at any time"
         keys = "".join(f", then key {key}, which is refused" for key in hiring.before)
         yield f"{number}. {name}: {clock}: {moment(self.meter, hiring.start)}, T{hiring.position} Z{hiring.zone}{keys}"
         far = 1_000_000 * hiring.pulses // self.meter.constant
@@ -191,7 +186,7 @@ class Lister:
         span = f"{number}" if ride.count == 1 else f"{number} to {last}"
         clock = "set the clock" if ride.needs_clock else "at any time"
         yield f"{span}. {name}: {clock}: {moment(self.meter, ride.acts[0].value)}"
-        for at, acts in enumerate(parted(ride.acts[1:])):
+        for at, acts in enumerate(hirings_in(ride.acts)):
             yield f"   {f'{number + at}: ' if ride.count > 1 else ''}{'; '.join(shortened(self.meter, acts))}"
         yield f"   {seconds(ride.ticks)}"
         for at, purposes in enumerate(ride.purposes, number):
@@ -203,15 +198,14 @@ class Lister:
         for hiring in self.hirings:
             purposes = self.purposes[hiring]
             name = f"{number:0{width}}_{slug((purposes or [''])[0])}.drive"
-            needs_clock = self.needs_clock(hiring)
-            lines += ["", *self.entry(number, hiring, name, needs_clock)]
-            made.append(KitDrive(name, drive_file(hiring, purposes), number, [purposes], False, needs_clock))
+            lines += ["", *self.entry(number, hiring, name)]
+            made.append(KitDrive(name, drive_file(hiring, purposes), number, [purposes], False))
             number += 1
         for ride in self.part.drives:
             name = f"{number:0{width}}_{ride.name}.drive"
             lines += ["", *self.meter_entry(number, ride, name)]
             text = drive_text(self.meter, ride, itertools.chain(*ride.purposes))
-            made.append(KitDrive(name, text, number, ride.purposes, True, ride.needs_clock))
+            made.append(KitDrive(name, text, number, ride.purposes, True))
             number += ride.count
         return self.ended(lines, made)
 
@@ -229,6 +223,17 @@ class Lister:
     def because(self, title):
         reason = self.kit.reasons.get(title)
         return f": {reason}" if reason else ""
+
+
+def hirings_in(acts):
+    """The acts of each hiring; where the drive begins is said before."""
+    found, last = [], []
+    for act in acts[1:]:
+        last.append(act)
+        if (act.what, act.value) == ("key", "C"):
+            found.append(last)
+            last = []
+    return found
 
 
 def shortened(meter, acts):

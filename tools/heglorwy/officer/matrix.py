@@ -23,8 +23,8 @@ class Case(NamedTuple):
 class Matrix:
     """The levels at which hirings tell cases, as far as they were tried. Hirings are only added."""
 
-    def __init__(self, program, level_of, progress):
-        self.program, self.level_of, self.progress = program, level_of, progress
+    def __init__(self, program, level_of):
+        self.program, self.level_of = program, level_of
         self.hirings, self.purposes = [], {}
         self.cases, self.rows = {}, {}
 
@@ -59,7 +59,7 @@ class Matrix:
     def complete(self):
         """Tries each case on all hirings that isn't told as it should be."""
         self.known(self.hirings)
-        for case in self.progress.over("wrong tariffs that are told by less than they should be", self.cases.values()):
+        for case in list(self.cases.values()):
             if self.top(case) < case.wanted:
                 self.tried(case, range(len(self.hirings)))
 

@@ -1,12 +1,11 @@
 """The hirings for the meter, beside those for the tariff: what a meter may do wrong that no line of a tariff says."""
 
-import random
 from typing import NamedTuple
 
 from heglorwy.officer import day_ideas, fare_ideas, trip_ideas
 from heglorwy.officer.ideas import chosen, closings
 from heglorwy.officer.ride import MINUTE, text_of, ticks_of
-from heglorwy.officer.town import APART, Town
+from heglorwy.officer.town import Town
 
 BENCH_ALONE = 35 * MINUTE  # ticks: what takes longer is for a bench
 
@@ -45,18 +44,15 @@ def fits(name, idea, missed, asked):
     return ""
 
 
-def meter_part(program, asked, progress):
+def meter_part(program, asked):
     """The drives for the meter under a tariff."""
     town, drives, notes = Town(program, asked.fastest), [], []
-    town.first_minute = random.Random(f"{asked.seed} hours").randrange(1440)
     by_name = [(name, make, False) for name, make in {**trip_ideas.IDEAS, **fare_ideas.IDEAS}.items()]
-    by_name += [(name, make, town.asks_for_time) for name, make in fare_ideas.MINIMA.items()]
-    by_name += [(name, make, True) for name, make in day_ideas.ideas(town, asked.seed).items()]
-    for name, make, needs_clock in progress.over("hirings for the meter", by_name):
+    by_name += [(name, make, True) for name, make in day_ideas.ideas(town).items()]
+    for name, make, needs_clock in by_name:
         if isinstance(make, str):
             notes.append(make)
             continue
-        town.first_minute += APART
         idea, missed = chosen(town, asked.seed, name, make)
         why = idea if isinstance(idea, str) else fits(name, idea, missed, asked)
         if why:

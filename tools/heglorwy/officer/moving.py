@@ -54,7 +54,7 @@ class Moving:
         now = {at: at for at in places}
         for way in (self.to_any_hour, self.to_other_week, self.to_other_year):
             left = self.alike({at: self.added(at, way) for at in places if now[at] == at})
-            for title, best, tellers in self.kit.progress.over("other days and hours", self.needed(places)):
+            for title, best, tellers in self.needed(places):
                 row = self.matrix.tried(self.matrix.cases[title], sorted({left[at] for at in tellers if at in left}))
                 left = {at: new for at, new in left.items() if at not in tellers or row[new] >= best}
             now |= left

@@ -6,7 +6,6 @@ import time
 from heglorwy.drives import SECOND
 from heglorwy.officer.judging import drives_of
 from heglorwy.officer.kit_folder import lines_of
-from heglorwy.officer.ride import closes
 
 TICK = 1 / SECOND  # seconds
 
@@ -15,9 +14,9 @@ class Player:
     """Writes lines to an output. In time, an interval is written as it ends, and the supply comes back when it
     should."""
 
-    def __init__(self, out, in_time, read=0, clock=time.monotonic, wait=time.sleep):
-        self.out, self.in_time, self.read, self.clock, self.wait = out, in_time, read, clock, wait
-        self.due, self.last, self.lost, self.ends = clock(), 0, None, iter(())
+    def __init__(self, out, in_time, clock=time.monotonic, wait=time.sleep):
+        self.out, self.in_time, self.clock, self.wait = out, in_time, clock, wait
+        self.due, self.last, self.lost = clock(), 0, None
 
     def write(self, line):
         self.out.write(f"{line}\n".encode())
@@ -26,7 +25,7 @@ class Player:
     def wait_for(self, seconds):
         """Waits until so much later than before. What was late isn't waited for again."""
         self.due += seconds
-        if (left := self.due - self.clock()) > 0:
+        if self.in_time and (left := self.due - self.clock()) > 0:
             self.wait(left)
 
     def line(self, word, *rest):
@@ -34,11 +33,8 @@ class Player:
         if word == "D":
             self.lost = self.last
         elif word == "U" and self.lost is not None:
-            self.wait_for(max(0, int(rest[0]) - self.lost) if self.in_time else 0)
+            self.wait_for(max(0, int(rest[0]) - self.lost))
             self.lost = None
-        if word == "K" and next(self.ends):
-            self.due = max(self.due, self.clock())
-            self.wait_for(self.read)
         if word in "UC":
             self.last = int(rest[0])
         if word != "I" or not self.in_time:
@@ -50,16 +46,15 @@ class Player:
 
     def drive(self, text):
         """A drive; behind it the supply drops, so that the next one finds the meter as it was powered."""
-        self.last, self.lost, lines = 0, None, lines_of(text)
-        self.ends = closes(words[1] for words in lines if words[0] == "K")
-        for words in lines:
+        self.last, self.lost = 0, None
+        for words in lines_of(text):
             self.line(*words)
         self.write("D")
 
 
 def play(asked):
     """Plays a drive, or the drives of a folder in the order of their names."""
-    player = Player(sys.stdout.buffer, not asked.at_once, asked.read)
+    player = Player(sys.stdout.buffer, not asked.at_once)
     for drive in drives_of(asked.drive):
         print(f"verify: {drive.name}", file=sys.stderr, flush=True)
         player.drive(drive.text)

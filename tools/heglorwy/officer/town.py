@@ -8,7 +8,6 @@ from heglorwy.tariff_parts import atoms_in, number_of, of_kind
 
 YEARS = 2  # behind the securing, in which days are drawn
 LATE = 20  # seconds within a minute at which a hiring begins
-APART = 890  # minutes: so far behind one another, round the clock, ideas begin, and so nowhere side by side
 OF_TIME = {"minute", "day", "date", "holiday"}
 
 
@@ -16,7 +15,7 @@ class Town:
     """The occasions of a tariff, for a driver who is at most so fast, in km/h."""
 
     def __init__(self, program, fastest):
-        self.program, self.meter, self.fastest, self.first_minute = program, program.meter, fastest, 0
+        self.program, self.meter, self.fastest = program, program.meter, fastest
         lines = program.tariff.lines
         atoms = atoms_in(lines)
         self.positions, self.zones = (number_of(lines, kind) for kind in ("positions", "zones"))
@@ -44,10 +43,10 @@ class Town:
         return draw.choice(plain or self.days)
 
     def moment(self, draw, day=None, minute=None):
-        """A second of a day, by default of a plain one and within the hour in turn; of a later day if it has none."""
+        """A second of a day, by default of a plain one and at any minute; of a later day if it has none."""
         for later in range(100):
             on = day + datetime.timedelta(days=later) if day else self.plain_day(draw)
-            at = (self.first_minute + draw.randrange(60)) % 1440 if minute is None else minute
+            at = draw.randrange(1440) if minute is None else minute
             if (second := self.second(on, at)) is not None:
                 return second + LATE
         raise ValueError("no such moment")

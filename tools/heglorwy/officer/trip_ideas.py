@@ -3,12 +3,11 @@ supply, speeds, creeping and a jam. Each gives a sentence in its place where the
 
 from heglorwy.fineness import finenesses
 from heglorwy.officer.ideas import Idea, foil
-from heglorwy.officer.ride import COARSE, at, far, go, key, lose, on_the_way, stand
+from heglorwy.officer.ride import COARSE, at, far, go, key, lose, stand
 from heglorwy.tariff_parts import of_kind
 
 END = key("S", "C")
 TEN_MINUTES = 600
-FAR = 10_000  # metres that one of several hirings is long, so that a charge that is 2 % off is seen
 OFTEN = 6  # a supplement is entered at most so often, and at most as often as the tariff allows
 
 
@@ -34,20 +33,18 @@ def placed(position, zone):
 
 
 def there_and_back(town, draw, longer, name, letter, count):
-    """Each position, or each zone, amid a trip that begins in another one than the first, and back there. Keys are
-    pressed on the way, but for the last one, behind which it stands for a while."""
-    first = draw.randint(2, count)
+    """Each position, or each zone, amid a trip, and back to the first one."""
+    first = draw.randint(1, count)
     others = [number for number in range(1, count + 1) if number != first]
     draw.shuffle(others)
     position, zone = town.place(draw)
     start = placed(first, zone) if letter == "P" else placed(position, first)
-    way = lambda: far(town.speed(draw), longer * draw.uniform(1050, 1450))
-    acts = [at(town.moment(draw)), *start, *key("H"), way()]
-    for number in [first, *others]:  # the first key sets what is set
-        acts += [*on_the_way(town.speed(draw), f"{letter} {number}"), way()]
-    acts += [*key(f"{letter} {first}"), stand(draw.uniform(45, 55)), way(), *END]
-    said = f"a meter that passes over a {name} key amid the trip, or while driving"
-    back = f"a meter whose {name} can't be set back, or is late to count"
+    acts = [at(town.moment(draw)), *start, *key("H")]
+    for number in [first, *others, first]:  # the first key sets what is set
+        acts += [far(town.speed(draw), longer * draw.uniform(1100, 1500)), *key(f"{letter} {number}")]
+    acts += [far(town.speed(draw), longer * draw.uniform(1100, 1500)), *END]
+    said = f"a meter that passes over a {name} key amid the trip"
+    back = f"a meter whose {name} can't be set back"
     foils = [foil(said, passing_over(acts, letter)), foil(back, passing_over(acts, letter, 1))]
     return Idea(acts, [[said, back, f"a meter that charges a {name} key, or by the {name} of the hiring"]], foils)
 
@@ -70,7 +67,7 @@ def stopped(town, draw, longer):
     other = zone % town.zones + 1
     drive = lambda: far(town.speed(draw), draw.uniform(500, 900))
     standing = [*key("S"), stand(TEN_MINUTES), *key(f"Z {other}", f"P {position}", "H")]
-    moving = [*key("S"), go(town.speed(draw), longer * draw.uniform(120, 150))]
+    moving = [*key("S"), go(town.speed(draw), longer * draw.uniform(150, 180))]
     acts = [
         at(town.moment(draw)), *placed(position, zone), *key("H"), drive(), *standing, drive(), *moving, *key("H"),
         drive(), *END
@@ -89,61 +86,48 @@ def stopped(town, draw, longer):
 
 
 def again(town, draw, longer):
-    """Hire in Stopped, three times, in the last position and zone, once on the way; and the keys that are refused."""
+    """Hire in Stopped, three times, in the last position and zone."""
     acts = [at(town.moment(draw)), *placed(town.positions, town.zones), *key("H")]
     number = min(town.supplements, default=None)
     for turn in range(3):
         acts += [far(town.speed(draw), longer * draw.uniform(700, 900))]
         acts += key(f"E {number}") if number and turn == 0 else []
-        acts += key("C", "H") if turn == 0 else []
-        some = draw.uniform(5, 15)
-        roll = town.speed(draw, 15, 25)
-        acts += [*on_the_way(roll, "S"), go(roll, some), *on_the_way(roll, "H")] if turn == 1 else [
-            *key("S"), stand(some), *key("H")
-        ]
-    acts += [far(town.speed(draw), 800), *key("S"), *END]
+        acts += [*key("S"), stand(draw.uniform(5, 15)), *key("H")]
+    acts += [far(town.speed(draw), 800), *END]
     return Idea(acts, [["a meter that charges a hire fee or begins anew at Hire in Stopped",
-                        "a meter that forgets distance, place or supplements at Hire in Stopped, or refuses it",
-                        "a meter that takes Clear or Hire while Hired, or goes on at a second Stop"]])
+                        "a meter that forgets distance, place or supplements at Hire in Stopped, or refuses it"]])
 
 
 def in_a_row(town, draw, longer):
-    """Hirings behind one power-up: a short one in the last place; one beyond each bound, with supplements and a loss of
-    supply there; short ones, one right behind another, the last where the one before went to; and one behind a loss of
-    supply for hire."""
-    metres = min(15_000, max([FAR, *(bound / 10 + 500 for bound in town.bounds)]))
-    wait = min(1800, max([0.1, *(bound / 10 + 10 - metres * 3.6 / town.fastest for bound in town.durations)]))
+    """Hirings behind one power-up: the first beyond each bound, with supplements; then short ones, the last where the
+    one before went to."""
+    metres = min(15_000, max([2000, *(bound / 10 + 600 for bound in town.bounds)])) * longer
     supplements = key(*(f"E {number}" for number in town.supplements))
-    long = [far(town.fastest * 0.97, metres), stand(wait), lose(held(town, draw)), *supplements]
-    long += [far(town.fastest * 0.97, longer * draw.uniform(1500, 1800)), stand(40)]
-    short = lambda: far(town.speed(draw, 50), draw.uniform(1100, 1400))
-    roam = lambda: [far(town.speed(draw), draw.uniform(200, 300))]
-    last = placed(town.positions, town.zones)
-    acts = [at(town.moment(draw)), *last, *key("H"), short(), *END, *roam(), *placed(1, 1), *key("H"), *long, *END]
-    acts += [*roam(), *key("H"), short(), *last, short(), *supplements[:1], *END, go(town.speed(draw), 1)]
-    acts += [*key("H"), short(), *END, lose(held(town, draw)), *roam(), *key("H"), short(), *END]
+    first = [far(town.fastest * 0.97, metres), *supplements]
+    short = lambda: far(town.speed(draw, 50), draw.uniform(1300, 1700))
+    roam = lambda: [far(town.speed(draw), draw.uniform(500, 700))]
+    acts = [
+        at(town.moment(draw)), *key("H"), *first, *END, *roam(), *key("H"), short(), *supplements[:1], *END, *roam()
+    ]
+    acts += [*key("H"), short(), *placed(town.positions, town.zones), short(), *END, *roam(), *key("H"), short(), *END]
     return Idea(acts, [
-        ["a meter that charges the first hiring otherwise than the next ones"],
-        ["a meter that counts what is driven for hire, or goes by the place of the hiring before",
-         *["a meter that forgets distance or duration at a loss of supply"] * bool(town.bounds or town.durations)],
+        ["a meter that counts what is driven for hire"],
         ["a meter that carries distance, charge, cover or supplements into the next hiring"],
-        ["a meter that doesn't stay in position and zone behind a hiring, or has no cover right behind one"],
-        ["a meter that keeps position and zone while the supply is lost for hire"],
+        ["a meter that charges the third hiring otherwise than the first"],
+        ["a meter that doesn't stay in position and zone behind a hiring"],
     ])
 
 
 def supplements(town, draw, longer):
-    """Each supplement on the way, in Stopped, and before a loss of supply, in the last place and in the first."""
+    """Each supplement while Hired, in Stopped, and before a loss of supply."""
     if not town.supplements:
         return "supplements: the tariff has none"
-    kmh = town.speed(draw)
-    acts = [at(town.moment(draw)), *placed(town.positions, town.zones), *key("H"), far(kmh, 500)]
+    acts = [at(town.moment(draw)), *placed(*town.place(draw)), *key("H"), far(town.speed(draw), 500)]
     often = {number: min(most, OFTEN) for number, most in town.supplements.items()}
-    acts += on_the_way(kmh, *(f"E {number}" for number, count in often.items() for _ in range((count + 1) // 2)))
-    acts += [far(kmh, 400), *placed(1, 1), lose(held(town, draw)), *key("S")]
+    acts += key(*(f"E {number}" for number, count in often.items() for _ in range((count + 1) // 2)))
+    acts += [far(town.speed(draw), 400), lose(held(town, draw)), *key("S")]
     acts += key(*(f"E {number}" for number, count in often.items() for _ in range(count // 2))) + key("H", "S", "C")
     return Idea(acts, [["a meter that counts a supplement twice or not, or takes it in Hired or in Stopped alone",
-                        "a meter that takes a supplement otherwise while driving, or in another place",
                         "a meter that loses supplements with the supply"]])
 
 
@@ -153,12 +137,11 @@ def held(town, draw, low=0.6):
 
 
 def losses(town, draw, longer, position, zone):
-    """Two losses of supply in another place, the first before the cover is used; and one of a few seconds."""
+    """Two losses of supply in another place: the first before the cover is used."""
     acts = [at(town.moment(draw)), *key("H")]
     acts += key(*[f"P {position}"] * (position > 1), *[f"Z {zone}"] * (zone > 1))
     acts += [go(town.speed(draw), 1), lose(held(town, draw)), far(town.speed(draw), longer * draw.uniform(1400, 1700))]
-    acts += [lose(held(town, draw)), far(town.speed(draw), longer * draw.uniform(1400, 1700))]
-    acts += [lose(min(town.meter.hold, draw.randint(1, 4))), far(town.speed(draw), 300), *END]
+    acts += [lose(held(town, draw)), far(town.speed(draw), longer * draw.uniform(1400, 1700)), *END]
     lost = [number for number, act in enumerate(acts) if act.what == "lose"]
     reset = [*acts[: lost[0] + 1], *placed(1, 1), *acts[lost[0] + 1 :]]
     waited = [stand(act.value) if act.what == "lose" else act for act in acts]
@@ -166,8 +149,7 @@ def losses(town, draw, longer, position, zone):
     if (position, zone) != (1, 1):
         foils.append(foil("a meter that sets position and zone 1 at a loss of supply", reset))
     return Idea(acts, [[*(one.said for one in foils), "a meter that forgets cover or charge at a loss of supply",
-                        "a meter whose trip ends at the second or third loss of supply, or too early",
-                        "a meter that takes a loss of some seconds otherwise"]], foils)
+                        "a meter whose trip ends at the second loss of supply, or too early"]], foils)
 
 
 def losses_in_zone(town, draw, longer):
@@ -181,24 +163,37 @@ def losses_in_position(town, draw, longer):
 
 
 def loss_while_stopped(town, draw, longer):
-    some = key(*(f"E {number}" for number in list(town.supplements)[:1]))
     acts = [
-        at(town.moment(draw)), *placed(*town.place(draw)), *key("H"), far(town.speed(draw), 600), *some, *key("S"),
+        at(town.moment(draw)), *placed(*town.place(draw)), *key("H"), far(town.speed(draw), 600), *key("S"),
         lose(held(town, draw))
     ]
     acts += [stand(longer * draw.uniform(90, 120)), far(town.speed(draw), 900), *key("C")]
-    return Idea(acts, [["a meter that goes on charging when the supply comes back while it was stopped",
-                        "a meter that forgets charge or supplements when the supply is lost while it is stopped"]],
+    return Idea(acts, [["a meter that goes on charging when the supply comes back while it was stopped"]],
                 [foil("a meter that goes on charging", [*acts[:-5], *acts[-4:-1], *END])])
+
+
+def far_loss(town, draw, longer):
+    """A loss of supply beyond the bounds of distance and duration."""
+    if not town.bounds and not town.durations:
+        return "a loss of supply beyond a bound: the tariff has no `after`"
+    metres = max([1000, *(bound / 10 + 500 for bound in town.bounds if bound < 200_000)])
+    wait = max([0, *(bound / 10 + 10 for bound in town.durations if bound < 18_000)])
+    begin = [
+        at(town.moment(draw)), *key("H"), far(town.fastest * 0.97, metres),
+        stand(max(0.1, wait - metres * 3.6 / town.fastest))
+    ]
+    rest = [far(town.speed(draw), longer * draw.uniform(1500, 1800)), stand(60), *END]
+    return Idea([*begin, lose(held(town, draw)), *rest],
+                [["a meter that forgets distance and duration at a loss of supply"]])
 
 
 def speeds(town, draw, longer):
     """Even speeds, each as far as the others."""
     kept = [
-        speed * draw.uniform(0.92, 1.08) for speed in (15, 22, 30, 40, 50, 60, 70, 85) if speed < town.fastest
+        speed * draw.uniform(0.92, 1.08) for speed in (15, 30, 40, 50, 60, 70, 85) if speed < town.fastest
     ] + [town.fastest * 0.97]
     draw.shuffle(kept)
-    each = longer * draw.uniform(600, 680)
+    each = longer * draw.uniform(700, 800)
     acts = [at(town.moment(draw)), *placed(*town.place(draw)), *key("H"), *(far(speed, each) for speed in kept), *END]
     said = "a meter that counts some speeds wrong: {} km/h"
     return Idea(acts, [[said.format(", ".join(f"{speed:.0f}" for speed in sorted(kept)))]])
@@ -246,6 +241,6 @@ def jam(town, draw, longer):
 IDEAS = {
     "zone_keys": zones, "position_keys": positions, "stopped": stopped, "hire_again": again, "in_a_row": in_a_row,
     "supplements_amid": supplements, "two_losses_in_zone": losses_in_zone, "two_losses": losses_in_position,
-    "loss_while_stopped": loss_while_stopped, "speeds": speeds, "creeping": creeping,
+    "loss_while_stopped": loss_while_stopped, "loss_beyond": far_loss, "speeds": speeds, "creeping": creeping,
     "jam": jam,
 }

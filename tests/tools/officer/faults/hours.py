@@ -3,7 +3,7 @@
 import datetime
 from fractions import Fraction
 
-from faults import RARE, UNSEEN, is_summer, wrong
+from faults import RARE, is_summer, wrong
 from faults.known import of_trip, put, remembered
 
 HOUR, WEEK = 3600, 604_800
@@ -24,8 +24,7 @@ CLOCKS = [
           weekday=lambda my, was, at: was(at) if at.hour else was(at - datetime.timedelta(days=1))),
     wrong("the weekday is that of the hiring", RARE, "over midnight alone, where night has its own rate", tariff="port",
           **remembered("weekday", lambda my: my.weekday(my.local(my.clock)))),
-    wrong("the holiday is that of the hiring", UNSEEN, "the holidays of its tariff are Saturdays, on which the same holds",
-          tariff="port",
+    wrong("the holiday is that of the hiring", RARE, "over the midnight of a holiday alone", tariff="port",
           **remembered("is_holiday", lambda my: my.is_holiday(my.local(my.clock)))),
     wrong("ticks are 0.5 % short", tick=Fraction(1005, 1000)),
     wrong("each reading of the clock counts a tick more",
